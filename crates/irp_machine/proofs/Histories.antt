@@ -88,10 +88,10 @@ step_made rules standing old new seat (Some planned) after plays = (after, refl,
 -- what was made and recorded, and then the change
 pub played_in : (rules : RulesValue) (standing middle new : StandingValue) (seat : ℕ) (planned : Planned) (act : Option Planned) (old entries : List Entry) (change : Change)
     → act ≡ Some planned → IsActed rules standing seat planned (next_of standing (seat_at standing seat) planned) old middle entries change
-    → new ≡ after_change seat change planned.step rules.tells middle → PlaysIn rules standing old seat act new entries
+    → new ≡ after_change seat change planned.place rules.tells middle → PlaysIn rules standing old seat act new entries
 played_in rules standing middle new seat planned act old entries change is acted after =
     subst (λ (act : Option Planned). PlaysIn rules standing old seat act new entries) (sym is)
-    ((change, acted.0.0, after ∙ ap (λ (middle : StandingValue). after_change seat change planned.step rules.tells middle) acted.0.1), acted.1)
+    ((change, acted.0.0, after ∙ ap (λ (middle : StandingValue). after_change seat change planned.place rules.tells middle) acted.0.1), acted.1)
 
 -- steps that were recorded were made
 pub all_made : (rules : RulesValue) (standing : StandingValue) (old new : List Entry) (path : List ℕ) (last : StandingValue)

@@ -21,6 +21,7 @@ use Rattle.irp_machine.specs.declared.outcome.Outcome.{Outcome}
 use Rattle.irp_machine.specs.declared.parts.Planned.{Planned}
 use Rattle.irp_machine.specs.declared.place.Place.{Place}
 use Rattle.irp_machine.specs.declared.place.Place.TheVariants.{Running, Over}
+use Rattle.irp_machine.specs.Conditions.{act_now}
 use Rattle.irp_machine.specs.Machine.{RulesValue, PlaceSteps, RunningSteps, ClosesIf, ClosesTo, StepsTo, act_of, has_ended, has_ended_below}
 use Rattle.irp_machine.specs.Openings.{MakesAll}
 use Rattle.irp_machine.specs.Orders.{AreOrders, AreOutcomes, IsClosed, IsCounted, IsOrder, Tells, AllTell, ends_of, is_over, weigh_outcomes}
@@ -51,12 +52,12 @@ never_over standing end same = let no : false ≡ true = ap is_over same in cc
 
 -- a seat that has an act is below their number
 acts_at : (rules : RulesValue) (acts : Option (List Planned)) (seat : ℕ) (own : SeatValue) (planned : Planned) → slice_get rules.acts seat ≡ acts
-    → option_and_then (λ (acts : List Planned). slice_get acts own.made) acts ≡ Some planned → seat < length rules.acts
+    → option_and_then (λ (acts : List Planned). act_now acts own) acts ≡ Some planned → seat < length rules.acts
 acts_at rules None seat own planned at is = absurd (none-some planned is)
 acts_at rules (Some acts) seat own planned at is = slice_get_within rules.acts seat acts at
 
 acts_of : (rules : RulesValue) (own : Option SeatValue) (seat : ℕ) (planned : Planned)
-    → option_and_then (λ (own : SeatValue). option_and_then (λ (acts : List Planned). slice_get acts own.made) (slice_get rules.acts seat)) own ≡ Some planned
+    → option_and_then (λ (own : SeatValue). option_and_then (λ (acts : List Planned). act_now acts own) (slice_get rules.acts seat)) own ≡ Some planned
     → seat < length rules.acts
 acts_of rules None seat planned is = absurd (none-some planned is)
 acts_of rules (Some own) seat planned is = acts_at rules (slice_get rules.acts seat) seat own planned refl is

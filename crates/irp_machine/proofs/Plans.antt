@@ -10,13 +10,14 @@ use Rattle.std.proofs.lemmas.Option.{none-some, slice_get-get_or, slice_get_with
 use Rattle.irp_script_reader.specs.declared.act.Step.{Step}
 use Rattle.irp_plain.specs.Seats.{SeatValue}
 use Rattle.irp_machine.specs.declared.parts.Planned.{Planned}
+use Rattle.irp_machine.specs.Conditions.{act_now}
 use Rattle.irp_machine.specs.Machine.{RulesValue, act_of}
 use Rattle.irp_machine.specs.Planning.{acts_below, own_acts, planned}
 use Rattle.irp_machine.specs.Standings.{StandingValue}
 
 -- a seat that has an act is there
 seated : (rules : RulesValue) (standing : StandingValue) (seat : ℕ) (planned : Planned) (own : Option SeatValue) → slice_get standing.seats seat ≡ own
-    → option_and_then (λ (own : SeatValue). option_and_then (λ (acts : List Planned). slice_get acts own.made) (slice_get rules.acts seat)) own ≡ Some planned
+    → option_and_then (λ (own : SeatValue). option_and_then (λ (acts : List Planned). act_now acts own) (slice_get rules.acts seat)) own ≡ Some planned
     → seat < length standing.seats
 seated rules standing seat planned None at is = absurd (none-some planned is)
 seated rules standing seat planned (Some own) at is = slice_get_within standing.seats seat own at
@@ -29,38 +30,39 @@ pub acts_long : (rivals steps : List Step) (seats : ℕ) → length (acts_below 
 acts_long rivals steps zero = refl
 acts_long rivals steps (suc seats) =
     let front = acts_long rivals steps seats in
-    let whole = length-append (acts_below rivals steps seats) (own_acts rivals steps 0 seats ∷ []) in
+    let whole = length-append (acts_below rivals steps seats) (own_acts rivals steps 0 0 seats ∷ []) in
     omega (arith, front, whole)
 
 -- each seat's acts stand at its place
-acts_in : (rivals steps : List Step) (seats seat : ℕ) (d : List Planned) → seat < seats → get_or (acts_below rivals steps seats) seat d ≡ own_acts rivals steps 0 seat
+acts_in : (rivals steps : List Step) (seats seat : ℕ) (d : List Planned) → seat < seats → get_or (acts_below rivals steps seats) seat d ≡ own_acts rivals steps 0 0 seat
 acts_in rivals steps zero seat d below = absurd (omega (arith, below))
 acts_in rivals steps (suc seats) seat d below =
     let front = acts_below rivals steps seats in
     let long = acts_long rivals steps seats in
-    elim (cases_lt seat seats) as (λ _. get_or (front ++ own_acts rivals steps 0 seats ∷ []) seat d ≡ own_acts rivals steps 0 seat) [
-      | inl before ↦ get_or-append front (own_acts rivals steps 0 seats ∷ []) d seat (omega (arith, before, long)) ∙ acts_in rivals steps seats seat d before
+    elim (cases_lt seat seats) as (λ _. get_or (front ++ own_acts rivals steps 0 0 seats ∷ []) seat d ≡ own_acts rivals steps 0 0 seat) [
+      | inl before ↦ get_or-append front (own_acts rivals steps 0 0 seats ∷ []) d seat (omega (arith, before, long)) ∙ acts_in rivals steps seats seat d before
       | inr past ↦
           (let last : seat ≡ seats = omega (arith, past, below) in
-          ap (λ seat. get_or (front ++ own_acts rivals steps 0 seats ∷ []) seat d) (last ∙ sym long)
-          ∙ get_or-append_seam front (own_acts rivals steps 0 seats) [] d ∙ ap (λ seat. own_acts rivals steps 0 seat) (sym last))
+          ap (λ seat. get_or (front ++ own_acts rivals steps 0 0 seats ∷ []) seat d) (last ∙ sym long)
+          ∙ get_or-append_seam front (own_acts rivals steps 0 0 seats) [] d ∙ ap (λ seat. own_acts rivals steps 0 0 seat) (sym last))
     ]
 
-pub acts_at : (rivals steps : List Step) (seats seat : ℕ) → seat < seats → slice_get (acts_below rivals steps seats) seat ≡ Some (own_acts rivals steps 0 seat)
+pub acts_at : (rivals steps : List Step) (seats seat : ℕ) → seat < seats → slice_get (acts_below rivals steps seats) seat ≡ Some (own_acts rivals steps 0 0 seat)
 acts_at rivals steps seats seat below =
     let long = acts_long rivals steps seats in
     slice_get-get_or (acts_below rivals steps seats) seat [] (omega (arith, below, long))
     ∙ ap (λ (acts : List Planned). Some acts) (acts_in rivals steps seats seat [] below)
 
 -- a seat has no more acts than there are steps
-own_by : (rivals rest : List Step) (step : Step) (place seat : ℕ) (own : Bool) → length (own_acts rivals rest (place + 1) seat) ≤ length rest
-    → length (if own then planned rivals place step ∷ own_acts rivals rest (place + 1) seat else own_acts rivals rest (place + 1) seat) ≤ length (step ∷ rest)
-own_by rivals rest step place seat true few = omega (arith, few)
-own_by rivals rest step place seat false few = omega (arith, few)
+own_by : (rivals rest : List Step) (step : Step) (place at seat : ℕ) (own : Bool) → length (own_acts rivals rest (place + 1) (at + 1) seat) ≤ length rest
+    → length (own_acts rivals rest (place + 1) at seat) ≤ length rest
+    → length (if own then planned rivals place at step ∷ own_acts rivals rest (place + 1) (at + 1) seat else own_acts rivals rest (place + 1) at seat) ≤ length (step ∷ rest)
+own_by rivals rest step place at seat true few other = omega (arith, few)
+own_by rivals rest step place at seat false few other = omega (arith, other)
 
-pub own_few : (rivals steps : List Step) (place seat : ℕ) → length (own_acts rivals steps place seat) ≤ length steps
-own_few rivals [] place seat = omega arith
-own_few rivals (step ∷ rest) place seat = own_by rivals rest step place seat (step.seat == seat) (own_few rivals rest (place + 1) seat)
+pub own_few : (rivals steps : List Step) (place at seat : ℕ) → length (own_acts rivals steps place at seat) ≤ length steps
+own_few rivals [] place at seat = omega arith
+own_few rivals (step ∷ rest) place at seat = own_by rivals rest step place at seat (step.seat == seat) (own_few rivals rest (place + 1) (at + 1) seat) (own_few rivals rest (place + 1) at seat)
 
 -- ---- what is left of a list
 
@@ -70,12 +72,6 @@ left_within [] zero first rest is = (let bad : ⊥ = cc in absurd bad)
 left_within [] (suc k) first rest is = (let bad : ⊥ = cc in absurd bad)
 left_within (one ∷ items) zero first rest is = omega arith
 left_within (one ∷ items) (suc k) first rest is = (let low = left_within items k first rest is in omega (arith, low))
-
-pub left_first : {X : Type 0} (items : List X) (k : ℕ) (first : X) (rest : List X) → drop k items ≡ first ∷ rest → slice_get items k ≡ Some first
-left_first [] zero first rest is = (let bad : ⊥ = cc in absurd bad)
-left_first [] (suc k) first rest is = (let bad : ⊥ = cc in absurd bad)
-left_first {X} (one ∷ items) zero first rest is = ap (λ (items : List X). slice_get items 0) is
-left_first (one ∷ items) (suc k) first rest is = left_first items k first rest is
 
 pub left_rest : {X : Type 0} (items : List X) (k : ℕ) (first : X) (rest : List X) → drop k items ≡ first ∷ rest → drop (suc k) items ≡ rest
 left_rest [] zero first rest is = (let bad : ⊥ = cc in absurd bad)

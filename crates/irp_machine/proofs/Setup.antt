@@ -1,7 +1,7 @@
 -- The setup of a script is made whole: each of its steps is one atomic step of its seat.
 use Rattle.std.proofs.Common.{◌≡◌, ◌≢◌, ℕ, ◌+◌, ◌<◌, ◌^◌, suc, Bool, true, false, List, [], ◌∷◌, drop, length, get_or, replicate, set, Option, Some, None, refl, sym, ap, subst, ◌∙◌, inl, inr, arith, if◌then◌else◌}
-use Rattle.std.specs.Prelude.{slice_get}
-use Rattle.std.specs.List.{AllByRecursion}
+use Rattle.std.specs.Prelude.{cond, slice_get}
+use Rattle.std.specs.List.{AllByRecursion, find}
 use Rattle.std.specs.Option.{option_and_then}
 use Rattle.std.proofs.lemmas.Bool.{cases_eq, eq-eqb, lt-leb, lt-ltb, ne_eqb}
 use Rattle.std.proofs.lemmas.List.{get_or-replicate, get_or-set_other, get_or-set_same, length-replicate, length-set}
@@ -18,7 +18,7 @@ use Rattle.irp_script_reader.specs.declared.act.StepAct.TheVariants as does
 use Rattle.irp_script_reader.specs.declared.script.ScriptParts.{ScriptParts}
 use Rattle.irp_plain.specs.Changes.{only, told}
 use Rattle.irp_plain.specs.Lists.{with_item}
-use Rattle.irp_plain.specs.Seats.{SeatValue, new_seat, after_step, one_more, place_after}
+use Rattle.irp_plain.specs.Seats.{SeatValue, new_seat, after_step, made_after, one_more, stage_after}
 use Rattle.irp_plain.specs.declared.answered.Answered.{Answered}
 use Rattle.irp_plain.specs.declared.answered.Answered.TheVariants.{Reply as Replied, Word}
 use Rattle.irp_plain.specs.declared.parts.After.TheVariants.{In, Told}
@@ -31,6 +31,7 @@ use Rattle.irp_machine.specs.declared.parts.Next.{Next}
 use Rattle.irp_machine.specs.declared.parts.Next.TheVariants.{Changes, Calls}
 use Rattle.irp_machine.specs.declared.parts.Planned.{Planned}
 use Rattle.irp_machine.specs.Headers.{IsHeaderOf}
+use Rattle.irp_machine.specs.Conditions.{act_now, holds, is_due}
 use Rattle.irp_machine.specs.Machine.{RulesValue, IsNext, StepsTo, act_of, seat_at}
 use Rattle.irp_script.specs.Labels.{packet_of}
 use Rattle.irp_machine.specs.Next.{after_call, binding, is_tokenless, naming, naming_at, next_by, next_of, with_packet}
@@ -38,7 +39,7 @@ use Rattle.irp_machine.specs.Openings.{IsStuck, first_standing, rules_of, seats_
 use Rattle.irp_machine.specs.Planning.{is_bound_elsewhere, is_named_elsewhere, own_acts, planned}
 use Rattle.irp_machine.specs.Standings.{StandingValue, with_given}
 use Rattle.irp_machine.proofs.Stuck.{Stops, stops_of}
-use Rattle.irp_machine.proofs.Plans.{acts_at, left_first, left_rest, left_within, own_few}
+use Rattle.irp_machine.proofs.Plans.{acts_at, left_rest, left_within, own_few}
 
 -- ---- one step
 
@@ -129,42 +130,51 @@ module _ (header : Header) (script : ScriptParts) (few : length script.setup < 2
   -- each seat is between two acts, and what it has left are its acts of the rest of the steps
   record AreLeft (standing : StandingValue) (rest : List Step) (place : ℕ) : Type 0 where
     many : length standing.seats ≡ script.seats
-    left : (seat : ℕ) → seat < script.seats → drop (seat_at standing seat).made (own_acts [] script.setup 0 seat) ≡ own_acts [] rest place seat
+    left : (seat : ℕ) → seat < script.seats → drop (seat_at standing seat).made (own_acts [] script.setup 0 0 seat) ≡ own_acts [] rest place (seat_at standing seat).made seat
     between : (seat : ℕ) → seat < script.seats → (seat_at standing seat).stage ≡ Between
 
   module _ (standing : StandingValue) (step : Step) (rest : List Step) (place : ℕ) (are : AreLeft standing (step ∷ rest) place)
-      (seated : step.seat < script.seats) (suits : suits_setup step.act ≡ true) where
+      (seated : step.seat < script.seats) (suits : suits_setup step.act ≡ true) (free : step.condition ≡ None) where
     abbrev own : SeatValue
     own = seat_at standing step.seat
 
     abbrev acts : List Planned
-    acts = own_acts [] script.setup 0 step.seat
+    acts = own_acts [] script.setup 0 0 step.seat
 
     abbrev act : Planned
-    act = planned [] place step
+    act = planned [] place own.made step
 
-    own_left : drop own.made acts ≡ act ∷ own_acts [] rest (place + 1) step.seat
+    abbrev others : List Planned
+    others = own_acts [] rest (place + 1) (own.made + 1) step.seat
+
+    own_left : drop own.made acts ≡ act ∷ others
     own_left =
         are.left step.seat seated
-        ∙ ap (λ (mine : Bool). if mine then act ∷ own_acts [] rest (place + 1) step.seat else own_acts [] rest (place + 1) step.seat)
+        ∙ ap (λ (mine : Bool). if mine then act ∷ others else own_acts [] rest (place + 1) own.made step.seat)
         (eq-eqb step.seat step.seat refl)
 
     there : step.seat < length standing.seats
     there = (let many = are.many in omega (arith, many, seated))
 
+    -- it hangs on nothing
+    act_first : act_now acts own ≡ Some act
+    act_first =
+        ap (find (is_due own.heard)) own_left
+        ∙ ap (λ condition. cond (holds own.heard condition) (Some act) (find (is_due own.heard) others)) free
+
     -- the seat has a step left
     has_act : act_of setting standing step.seat ≡ Some act
     has_act =
-        ap (option_and_then (λ (own : SeatValue). option_and_then (λ (acts : List Planned). slice_get acts own.made) (slice_get setting.acts step.seat)))
+        ap (option_and_then (λ (own : SeatValue). option_and_then (λ (acts : List Planned). act_now acts own) (slice_get setting.acts step.seat)))
         (slice_get-get_or standing.seats step.seat new_seat there)
-        ∙ ap (option_and_then (λ (acts : List Planned). slice_get acts own.made)) (acts_at [] script.setup script.seats step.seat seated)
-        ∙ left_first acts own.made act (own_acts [] rest (place + 1) step.seat) own_left
+        ∙ ap (option_and_then (λ (acts : List Planned). act_now acts own)) (acts_at [] script.setup script.seats step.seat seated)
+        ∙ act_first
 
     -- it is one of few, so that it is counted
     made_more : one_more own.made ≡ suc own.made
     made_more =
-        let low = left_within acts own.made act (own_acts [] rest (place + 1) step.seat) own_left in
-        let long = own_few [] script.setup 0 step.seat in
+        let low = left_within acts own.made act others own_left in
+        let long = own_few [] script.setup 0 0 step.seat in
         let count : own.made < 2 ^ 62 = omega (arith, low, long, few) in
         ap (λ (full : Bool). if full then own.made else own.made + 1) (lt-leb (2 ^ 62) own.made count) ∙ omega arith
 
@@ -180,7 +190,7 @@ module _ (header : Header) (script : ScriptParts) (few : length script.setup < 2
           next_ends setting standing step.seat act own (are.between step.seat seated) (none_elsewhere step.seat _) (none_named step.seat _) suits change steps.2.1
 
       abbrev after : SeatValue
-      after = after_step change act.step false own
+      after = after_step change act.place false own
 
       seats_behind : new.seats ≡ with_item step.seat after standing.seats
       seats_behind =
@@ -188,10 +198,10 @@ module _ (header : Header) (script : ScriptParts) (few : length script.setup < 2
           ∙ ap (λ (given : Option Given). with_given given (with_item step.seat after standing.seats)) ends.2
 
       made_behind : after.made ≡ suc own.made
-      made_behind = ap (λ (after : _). (place_after own.made after).0) ends.1 ∙ made_more
+      made_behind = ap (made_after act.place own.made) ends.1 ∙ made_more
 
       stage_behind : after.stage ≡ Between
-      stage_behind = ap (λ (after : _). (place_after own.made after).1) ends.1
+      stage_behind = ap stage_after ends.1
 
       seat_is : seat_at new step.seat ≡ after
       seat_is = ap (λ (seats : List SeatValue). get_or seats step.seat new_seat) seats_behind ∙ changed_seat standing.seats step.seat after there
@@ -199,25 +209,35 @@ module _ (header : Header) (script : ScriptParts) (few : length script.setup < 2
       other_is : (seat : ℕ) → seat ≢ step.seat → seat_at new seat ≡ seat_at standing seat
       other_is seat apart = ap (λ (seats : List SeatValue). get_or seats seat new_seat) seats_behind ∙ other_seat standing.seats step.seat seat after there apart
 
-      own_after : (seat : ℕ) → seat ≡ step.seat → drop (seat_at new seat).made (own_acts [] script.setup 0 seat) ≡ own_acts [] rest (place + 1) seat
-      own_after seat same =
-          subst (λ seat. drop (seat_at new seat).made (own_acts [] script.setup 0 seat) ≡ own_acts [] rest (place + 1) seat) (sym same)
-          (ap (λ made. drop made acts) (ap (λ (own : SeatValue). own.made) seat_is ∙ made_behind)
-          ∙ left_rest acts own.made act (own_acts [] rest (place + 1) step.seat) own_left)
+      made_is : (seat_at new step.seat).made ≡ suc own.made
+      made_is = ap (λ (own : SeatValue). own.made) seat_is ∙ made_behind
 
-      others_after : (seat : ℕ) → seat < script.seats → seat ≢ step.seat
-          → drop (seat_at new seat).made (own_acts [] script.setup 0 seat) ≡ own_acts [] rest (place + 1) seat
+      -- what a seat has left now
+      abbrev IsLeft : ℕ → Type 0
+      IsLeft seat = drop (seat_at new seat).made (own_acts [] script.setup 0 0 seat) ≡ own_acts [] rest (place + 1) (seat_at new seat).made seat
+
+      own_after : (seat : ℕ) → seat ≡ step.seat → IsLeft seat
+      own_after seat same =
+          let counted : own.made + 1 ≡ (seat_at new step.seat).made = omega (arith, made_is) in
+          subst IsLeft (sym same)
+          (ap (λ made. drop made acts) made_is
+          ∙ left_rest acts own.made act others own_left
+          ∙ ap (λ made. own_acts [] rest (place + 1) made step.seat) counted)
+
+      others_after : (seat : ℕ) → seat < script.seats → seat ≢ step.seat → IsLeft seat
       others_after seat below apart =
-          ap (λ (own : SeatValue). drop own.made (own_acts [] script.setup 0 seat)) (other_is seat apart)
+          let made : ℕ = (seat_at standing seat).made in
+          ap (λ (own : SeatValue). drop own.made (own_acts [] script.setup 0 0 seat)) (other_is seat apart)
           ∙ are.left seat below
-          ∙ ap (λ (mine : Bool). if mine then act ∷ own_acts [] rest (place + 1) seat else own_acts [] rest (place + 1) seat)
+          ∙ ap (λ (mine : Bool). if mine then planned [] place made step ∷ own_acts [] rest (place + 1) (made + 1) seat else own_acts [] rest (place + 1) made seat)
           (ne_eqb step.seat seat (λ same. apart (sym same)))
+          ∙ ap (λ (own : SeatValue). own_acts [] rest (place + 1) own.made seat) (sym (other_is seat apart))
 
       left_after : AreLeft new rest (place + 1)
       left_after = record {
         many = ap length seats_behind ∙ as_many standing.seats step.seat after there ∙ are.many;
         left = λ seat below.
-            elim (cases_eq seat step.seat) as (λ _. drop (seat_at new seat).made (own_acts [] script.setup 0 seat) ≡ own_acts [] rest (place + 1) seat) [
+            elim (cases_eq seat step.seat) as (λ _. IsLeft seat) [
               | inl same ↦ own_after seat same
               | inr apart ↦ others_after seat below apart
             ];
@@ -231,17 +251,17 @@ module _ (header : Header) (script : ScriptParts) (few : length script.setup < 2
 
   -- a step that the setup may have
   abbrev IsOfSetup : Step → Type 0
-  IsOfSetup step = (step.seat < script.seats) × (suits_setup step.act ≡ true)
+  IsOfSetup step = (step.seat < script.seats) × (suits_setup step.act ≡ true) × (step.condition ≡ None)
 
   never_stuck : (standing : StandingValue) (rest : List Step) (place : ℕ) → AreLeft standing rest place → AllByRecursion IsOfSetup rest
       → Stops setting standing (seats_of rest) → ⊥
   never_stuck standing [] place are all stuck = stuck
   never_stuck standing (step ∷ rest) place are all (inl none) =
-      none-some (planned [] place step) (sym none ∙ has_act standing step rest place are all.0.0 all.0.1)
+      none-some (planned [] place (seat_at standing step.seat).made step) (sym none ∙ has_act standing step rest place are all.0.0 all.0.1 all.0.2)
   never_stuck standing (step ∷ rest) place are all (inr (middle, steps, stuck)) =
-      let act = has_act standing step rest place are all.0.0 all.0.1 in
+      let act = has_act standing step rest place are all.0.0 all.0.1 all.0.2 in
       let made = subst (λ (act : Option Planned). StepsTo setting standing step.seat act (Some middle)) act steps in
-      let after = left_after standing step rest place are all.0.0 all.0.1 middle made in
+      let after = left_after standing step rest place are all.0.0 all.0.1 all.0.2 middle made in
       let same : middle ≡ made.0 = same_Some middle made.0 made.1 in
       never_stuck made.0 rest (place + 1) after all.1 (subst (λ (middle : StandingValue). Stops setting middle (seats_of rest)) same stuck)
 
@@ -255,7 +275,7 @@ module _ (header : Header) (script : ScriptParts) (few : length script.setup < 2
       never_stuck (first_standing header script) script.setup 0
       (record {
         many = length-replicate header.seats new_seat ∙ seats;
-        left = λ seat below. ap (λ (own : SeatValue). drop own.made (own_acts [] script.setup 0 seat)) (new seat below);
+        left = λ seat below. subst (λ (own : SeatValue). drop own.made (own_acts [] script.setup 0 0 seat) ≡ own_acts [] script.setup 0 own.made seat) (sym (new seat below)) refl;
         between = λ seat below. ap (λ (own : SeatValue). own.stage) (new seat below);
       })
       all stuck
@@ -263,7 +283,7 @@ module _ (header : Header) (script : ScriptParts) (few : length script.setup < 2
   pub setup_goes_on : IsSound script → IsHeaderOf script header → (rules : RulesValue) (first : StandingValue) (path : List ℕ)
       → rules ≡ setting → first ≡ first_standing header script → path ≡ seats_of script.setup → IsStuck rules first path → ⊥
   setup_goes_on sound headed rules first path is_rules is_first is_path stuck =
-      let all = recursion_from_All IsOfSetup script.setup (λ k d low. (let step = sound.setup k d low in (step.0.0, step.1))) in
+      let all = recursion_from_All IsOfSetup script.setup (λ k d low. (let step = sound.setup k d low in (step.0.0, step.1, sound.unconditioned k d low))) in
       let by_rules = subst (λ (rules : RulesValue). IsStuck rules first path) is_rules stuck in
       let by_first = subst (λ (first : StandingValue). IsStuck setting first path) is_first by_rules in
       let by_path = subst (λ (path : List ℕ). IsStuck setting (first_standing header script) path) is_path by_first in

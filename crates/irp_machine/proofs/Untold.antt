@@ -17,6 +17,7 @@ use Rattle.irp_transcript.specs.declared.word_line.WordReply.TheVariants.{NoLock
 use Rattle.irp_plain.specs.Lists.{with_item}
 use Rattle.irp_plain.specs.Seats.{SeatValue, new_seat, after_step, is_held, with_held}
 use Rattle.irp_plain.specs.declared.parts.After.TheVariants.{In}
+use Rattle.irp_plain.specs.declared.parts.ActPlace.{ActPlace}
 use Rattle.irp_plain.specs.declared.parts.Change.{Change}
 use Rattle.irp_plain.specs.declared.parts.Given.{Given}
 use Rattle.irp_plain.specs.declared.parts.Stage.{Stage}
@@ -29,6 +30,7 @@ use Rattle.irp_machine.specs.declared.parts.Next.TheVariants.{Changes, Calls}
 use Rattle.irp_machine.specs.declared.parts.Planned.{Planned}
 use Rattle.irp_machine.specs.Calling.{IsCalled}
 use Rattle.irp_machine.specs.Endings.{end_of, holds_of, holders_below, locks_below, replies_of, without_replies}
+use Rattle.irp_machine.specs.Conditions.{act_now}
 use Rattle.irp_machine.specs.Machine.{RulesValue, allocates, Makes, StepsTo, act_of, knows_of, seat_at}
 use Rattle.irp_script.specs.Labels.{packet_of}
 use Rattle.irp_machine.specs.Next.{is_tokenless, naming_at, next_by, next_of, with_packet, with_token}
@@ -53,14 +55,14 @@ seat_untold : (seats : List SeatValue) (seat : ℕ) → slice_index_or (map unto
 seat_untold seats seat = get_or-map untold_seat seats seat new_seat
 
 acts_by : (rules : RulesValue) (seat : ℕ) (own : Option SeatValue)
-    → option_and_then (λ (own : SeatValue). option_and_then (λ (acts : List Planned). slice_get acts own.made) (slice_get rules.acts seat)) (option_map untold_seat own)
-    ≡ option_and_then (λ (own : SeatValue). option_and_then (λ (acts : List Planned). slice_get acts own.made) (slice_get rules.acts seat)) own
+    → option_and_then (λ (own : SeatValue). option_and_then (λ (acts : List Planned). act_now acts own) (slice_get rules.acts seat)) (option_map untold_seat own)
+    ≡ option_and_then (λ (own : SeatValue). option_and_then (λ (acts : List Planned). act_now acts own) (slice_get rules.acts seat)) own
 acts_by rules seat None = refl
 acts_by rules seat (Some own) = refl
 
 pub act_untold : (rules : RulesValue) (standing : StandingValue) (seat : ℕ) → act_of (silent rules) (untold standing) seat ≡ act_of rules standing seat
 act_untold rules standing seat =
-    ap (λ (own : Option SeatValue). option_and_then (λ (own : SeatValue). option_and_then (λ (acts : List Planned). slice_get acts own.made) (slice_get rules.acts seat)) own)
+    ap (λ (own : Option SeatValue). option_and_then (λ (own : SeatValue). option_and_then (λ (acts : List Planned). act_now acts own) (slice_get rules.acts seat)) own)
     (slice_get-map untold_seat standing.seats seat)
     ∙ acts_by rules seat (slice_get standing.seats seat)
 
@@ -163,11 +165,11 @@ put_untold seats place item =
     put_by seats place item (nat_lt place (length seats))
     ∙ ap (λ n. if nat_lt place n then set (map untold_seat seats) place (untold_seat item) else map untold_seat seats) (sym (length-map seats untold_seat))
 
-changed_untold : (seat : ℕ) (change : Change) (step : ℕ) (tells : Bool) (seats : List SeatValue)
-    → map untold_seat (with_seat_changed seat change step tells seats) ≡ with_seat_changed seat change step false (map untold_seat seats)
-changed_untold seat change step tells seats =
-    put_untold seats seat (after_step change step tells (slice_index_or seats seat new_seat))
-    ∙ ap (λ (own : SeatValue). with_item seat (after_step change step false own) (map untold_seat seats)) (sym (seat_untold seats seat))
+changed_untold : (seat : ℕ) (change : Change) (place : ActPlace) (tells : Bool) (seats : List SeatValue)
+    → map untold_seat (with_seat_changed seat change place tells seats) ≡ with_seat_changed seat change place false (map untold_seat seats)
+changed_untold seat change place tells seats =
+    put_untold seats seat (after_step change place tells (slice_index_or seats seat new_seat))
+    ∙ ap (λ (own : SeatValue). with_item seat (after_step change place false own) (map untold_seat seats)) (sym (seat_untold seats seat))
 
 given_untold : (given : Option Given) (seats : List SeatValue) → map untold_seat (with_given given seats) ≡ with_given given (map untold_seat seats)
 given_untold None seats = refl
@@ -175,19 +177,19 @@ given_untold (Some given) seats =
     put_untold seats given.seat (with_held given.held (slice_index_or seats given.seat new_seat))
     ∙ ap (λ (own : SeatValue). with_item given.seat (with_held given.held own) (map untold_seat seats)) (sym (seat_untold seats given.seat))
 
-after_untold : (seat : ℕ) (change : Change) (step : ℕ) (tells : Bool) (old : StandingValue)
-    → untold (after_change seat change step tells old) ≡ after_change seat change step false (untold old)
-after_untold seat change step tells old =
-    ap (λ (seats : List SeatValue). record (after_change seat change step false old) { seats = seats })
-    (given_untold change.gives (with_seat_changed seat change step tells old.seats)
-    ∙ ap (λ (seats : List SeatValue). with_given change.gives seats) (changed_untold seat change step tells old.seats))
+after_untold : (seat : ℕ) (change : Change) (place : ActPlace) (tells : Bool) (old : StandingValue)
+    → untold (after_change seat change place tells old) ≡ after_change seat change place false (untold old)
+after_untold seat change place tells old =
+    ap (λ (seats : List SeatValue). record (after_change seat change place false old) { seats = seats })
+    (given_untold change.gives (with_seat_changed seat change place tells old.seats)
+    ∙ ap (λ (seats : List SeatValue). with_given change.gives seats) (changed_untold seat change place tells old.seats))
 
 -- ---- steps
 
 makes_untold : (rules : RulesValue) (standing : StandingValue) (seat : ℕ) (planned : Planned) (next : Next) (new : StandingValue)
     → Makes rules standing seat planned next new → Makes (silent rules) (untold standing) seat planned next (untold new)
 makes_untold rules standing seat planned (Changes one) new made =
-    (made.0, made.1, ap untold made.2 ∙ after_untold seat made.0 planned.step rules.tells standing)
+    (made.0, made.1, ap untold made.2 ∙ after_untold seat made.0 planned.place rules.tells standing)
 makes_untold rules standing seat planned (Calls calling) new made =
     let call = made.1 in
     let knows = ap (λ (own : SeatValue). knows_of own.learned) (sym (seat_untold standing.seats seat)) in (
@@ -199,7 +201,7 @@ makes_untold rules standing seat planned (Calls calling) new made =
         call = subst (λ (knows : LockNo → Bool). IsCalled rules.fixed rules.script (allocates rules.acts) knows standing.manager calling.call call.drained call.reply call.after) knows call.call;
         changes = call.changes;
       },
-      ap untold made.2 ∙ after_untold seat made.0 planned.step rules.tells (record standing { manager = call.after }),
+      ap untold made.2 ∙ after_untold seat made.0 planned.place rules.tells (record standing { manager = call.after }),
     )
 
 pub steps_untold : (rules : RulesValue) (standing : StandingValue) (seat : ℕ) (act : Option Planned) (new : StandingValue)

@@ -3,6 +3,7 @@ pub mod Marks
 pub mod Alike
 pub mod Standings
 pub mod Next
+pub mod Conditions
 pub mod Calling
 pub mod Endings
 pub mod Machine

@@ -20,6 +20,7 @@ use Rattle.irp_plain.specs.Seats.{SeatValue, new_seat, is_drained}
 use Rattle.irp_machine.specs.Standings.{ManagerValue, StandingValue, after_change, with_manager, standing_mark}
 use Rattle.irp_machine.specs.Next.{next_of, called}
 use Rattle.irp_machine.specs.Calling.{IsCalled}
+use Rattle.irp_machine.specs.Conditions.{act_now}
 use Rattle.irp_machine.specs.declared.outcome.End.{End}
 use Rattle.irp_machine.specs.Endings.{end_of, end_mark}
 
@@ -35,12 +36,12 @@ pub record RulesValue : Type 0 where
 abbrev pub seat_at : StandingValue → ℕ → SeatValue
 seat_at standing seat = slice_index_or standing.seats seat new_seat
 
--- the act that a seat is in, or its next one, where it has one
+-- the act that a seat is in, or its next one, where it has one left that it makes
 abbrev pub act_of : RulesValue → StandingValue → ℕ → Option Planned
 act_of rules standing seat =
     option_and_then
     (λ (own : SeatValue).
-    option_and_then (λ (acts : List Planned). slice_get acts own.made) (slice_get rules.acts seat))
+    option_and_then (λ (acts : List Planned). act_now acts own) (slice_get rules.acts seat))
     (slice_get standing.seats seat)
 
 -- which locks are known to be drained
@@ -87,7 +88,7 @@ abbrev pub stepped :
     (rules : RulesValue) (standing : StandingValue) (seat : ℕ) (planned : Planned) (next : Next) (change : Change)
     → IsNext rules standing seat planned next change → StandingValue
 stepped rules standing seat planned next change is =
-    after_change seat change planned.step rules.tells
+    after_change seat change planned.place rules.tells
     (with_manager standing (manager_behind rules standing seat planned next change is))
 
 -- this change comes next, and beside it the manager changes

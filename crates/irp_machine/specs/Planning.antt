@@ -1,9 +1,11 @@
 -- The acts of each seat of a script.
 use Rattle.std.specs.Prelude.{ℕ, zero, suc, ◌+◌, ◌==◌, ◌&&◌, ◌||◌, Bool, false, not, if◌then◌else◌, List, [], ◌∷◌, ◌++◌, Option, Some, None}
 use Rattle.std.specs.List.{list_any}
+use Rattle.std.specs.Option.{option_map_or}
 use Rattle.irp_script_reader.specs.declared.act.Named.{Named}
 use Rattle.irp_script_reader.specs.declared.act.Named.TheVariants.{Label, Irp}
 use Rattle.irp_script_reader.specs.declared.act.Step.{Step}
+use Rattle.irp_script_reader.specs.declared.condition.Condition.{Condition}
 use Rattle.irp_machine.specs.declared.parts.Planned.{Planned}
 use Rattle.irp_script.specs.Labels.{label_of}
 use Rattle.irp_script.specs.StepKinds.{named_by}
@@ -46,24 +48,34 @@ reads_alone steps step = is_bound_elsewhere steps step.seat (label_by (named_by 
 abbrev pub binds_alone : List Step → Step → Bool
 binds_alone steps step = is_named_elsewhere steps step.seat (label_of step.act)
 
--- the act of a step
-abbrev pub planned : List Step → ℕ → Step → Planned
-planned steps place step = record {
-  step = place;
+-- the step's condition names the step of this place
+abbrev pub names_step : ℕ → Step → Bool
+names_step place step = option_map_or (λ (condition : Condition). condition.step == place) step.condition false
+
+-- the condition of some step names the step of this place
+abbrev pub is_read : List Step → ℕ → Bool
+is_read steps place = list_any (names_step place) steps
+
+-- the act of a step of this place, which is at this place among its seat's acts
+abbrev pub planned : List Step → ℕ → ℕ → Step → Planned
+planned steps place at step = record {
+  place = record { step = place; at = at; is_read = is_read steps place };
   act = step.act;
+  condition = step.condition;
   reads_alone = reads_alone steps step;
   binds_alone = binds_alone steps step;
 }
 
--- the acts of a seat among the rest of the steps, of which the first has this place; labels that others of the rivals
--- bind are read alone, and those that others name are bound alone
-abbrev pub own_acts : List Step → List Step → ℕ → ℕ → List Planned
-own_acts rivals [] place seat = []
-own_acts rivals (step ∷ rest) place seat =
-    if step.seat == seat then planned rivals place step ∷ own_acts rivals rest (place + 1) seat
-    else own_acts rivals rest (place + 1) seat
+-- the acts of a seat among the rest of the steps, of which the first has this place; so many acts of the seat come
+-- before. Labels that others of the rivals bind are read alone, and those that others name are bound alone; what the
+-- conditions of the rivals name is heard
+abbrev pub own_acts : List Step → List Step → ℕ → ℕ → ℕ → List Planned
+own_acts rivals [] place at seat = []
+own_acts rivals (step ∷ rest) place at seat =
+    if step.seat == seat then planned rivals place at step ∷ own_acts rivals rest (place + 1) (at + 1) seat
+    else own_acts rivals rest (place + 1) at seat
 
 -- the acts of each of so many seats
 abbrev pub acts_below : List Step → List Step → ℕ → List (List Planned)
 acts_below rivals steps zero = []
-acts_below rivals steps (suc seat) = acts_below rivals steps seat ++ own_acts rivals steps 0 seat ∷ []
+acts_below rivals steps (suc seat) = acts_below rivals steps seat ++ own_acts rivals steps 0 0 seat ∷ []

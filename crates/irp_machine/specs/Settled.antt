@@ -117,8 +117,8 @@ module _ (rules : RulesValue) (standing : StandingValue) where
       let same = next_settled seat planned next one.0 two.0 one.1 two.1 in
       let behind = manager_behind rules standing seat planned next one.0 one.1 in
       one.2
-      ∙ ap (λ (change : Change). after_change seat change planned.step rules.tells (with_manager standing behind)) same.0
-      ∙ ap (λ (manager : ManagerValue). after_change seat two.0 planned.step rules.tells (with_manager standing manager)) same.1
+      ∙ ap (λ (change : Change). after_change seat change planned.place rules.tells (with_manager standing behind)) same.0
+      ∙ ap (λ (manager : ManagerValue). after_change seat two.0 planned.place rules.tells (with_manager standing manager)) same.1
       ∙ sym two.2
 
   pub steps_settled : (seat : ℕ) (act : Option Planned) (after other : Option StandingValue)

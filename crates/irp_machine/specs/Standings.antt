@@ -7,6 +7,7 @@ use Rattle.irp_types.specs.declared.names.IrpRef.{IrpRef}
 use Rattle.irp_manager.specs.ManagerStates.{state_of}
 use Rattle.irp_manager.specs.Slots.{live_of}
 use Rattle.irp_manager.specs.declared.manager_state.ManagerState.{ManagerState}
+use Rattle.irp_plain.specs.declared.parts.ActPlace.{ActPlace}
 use Rattle.irp_plain.specs.declared.parts.Change.{Change}
 use Rattle.irp_plain.specs.declared.parts.Given.{Given}
 use Rattle.irp_plain.specs.declared.parts.NewLabel.{NewLabel}
@@ -64,10 +65,10 @@ abbrev pub with_label : Option NewLabel → List IrpRef → List IrpRef
 with_label None labels = labels
 with_label (Some label) labels = with_item label.label label.irp labels
 
--- a seat behind a step of its own
-abbrev pub with_seat_changed : ℕ → Change → ℕ → Bool → List SeatValue → List SeatValue
-with_seat_changed seat change step tells seats =
-    with_item seat (after_step change step tells (slice_index_or seats seat new_seat)) seats
+-- a seat behind a step of its own, in the act at this place
+abbrev pub with_seat_changed : ℕ → Change → ActPlace → Bool → List SeatValue → List SeatValue
+with_seat_changed seat change place tells seats =
+    with_item seat (after_step change place tells (slice_index_or seats seat new_seat)) seats
 
 -- a seat that was given a reference, where one is given
 abbrev pub with_given : Option Given → List SeatValue → List SeatValue
@@ -79,14 +80,14 @@ with_given (Some given) seats =
 abbrev pub with_manager : StandingValue → ManagerValue → StandingValue
 with_manager standing manager = record standing { manager = manager }
 
--- where the script stands behind an atomic step of a seat that changes this
-abbrev pub after_change : ℕ → Change → ℕ → Bool → StandingValue → StandingValue
-after_change seat change step tells old = record {
+-- where the script stands behind an atomic step of a seat that changes this, in the act at this place
+abbrev pub after_change : ℕ → Change → ActPlace → Bool → StandingValue → StandingValue
+after_change seat change place tells old = record {
   manager = old.manager;
   labels = with_label change.label old.labels;
   words = with_word change.word old.words;
   slots = with_slot change.slot old.slots;
-  seats = with_given change.gives (with_seat_changed seat change step tells old.seats);
+  seats = with_given change.gives (with_seat_changed seat change place tells old.seats);
 }
 
 -- the mark of a standing: behind its seats, freed slots, labels, words and cancel slots, one after another

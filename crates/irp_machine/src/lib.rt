@@ -3,6 +3,7 @@
 
 mod asker;
 mod calling;
+mod condition;
 mod ending;
 mod equal;
 mod exploring;

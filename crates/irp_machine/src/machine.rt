@@ -12,6 +12,7 @@ ghost use Rattle.irp_machine.specs.Standings.{with_manager};
 ghost use Rattle.irp_machine.specs.Settled.{moves_settled};
 
 use crate::asker::ScriptAsker;
+use crate::condition::act_now;
 use crate::ending::end_of;
 use crate::equal::is_end;
 use crate::marks::end_mark;
@@ -90,7 +91,7 @@ impl<'a> ScriptMachine<'a> {
     {
         let own = standing.seats().get(seat)?;
         let acts = self.acts.get(seat)?;
-        acts.as_slice().get(own.made()).copied()
+        act_now(acts.as_slice(), own)
     }
 
     /// Whether it tells what its acts are answered.
@@ -184,7 +185,7 @@ impl<'a> ScriptMachine<'a> {
     {
         let mut next = standing.copy()?;
         let change = self.acted(&mut next, standing, seat, planned)?;
-        next.change(seat, change, planned.step, self.tells)?;
+        next.change(seat, change, planned.place, self.tells)?;
         Ok(next)
     }
 

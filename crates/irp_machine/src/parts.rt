@@ -1,15 +1,17 @@
 //! What a seat does next. A file of its own, since definitions that clauses cite name these.
 
-use irp_plain::Change;
-use irp_script_reader::StepAct;
+use irp_plain::{ActPlace, Change};
+use irp_script_reader::{Condition, StepAct};
 use irp_types::Call;
 
 /// An act of a seat.
 #[derive(Clone, Copy)]
 pub struct Planned {
-    /// Its place among the script's steps.
-    pub step: u32,
+    /// Which one.
+    pub place: ActPlace,
     pub act: StepAct,
+    /// Where this fails, the act is passed over.
+    pub condition: Option<Condition>,
     /// Whether reading the label that names its packet is a step of its own.
     pub reads_alone: bool,
     /// Whether binding its label is a step of its own.

@@ -6,6 +6,7 @@ ghost use Rattle.irp_script.specs.StepKinds.{named_by};
 ghost use Rattle.irp_machine.specs.Planning as spec;
 
 use crate::parts::Planned;
+use irp_plain::ActPlace;
 use irp_script::{label_of, named_by};
 use irp_script_reader::{Named, Step, StepAct};
 use irp_types::Row;
@@ -74,20 +75,43 @@ fn binds_alone(steps: &[Step], step: Step) -> bool
     }
 }
 
-/// The act of a step.
-fn planned(steps: &[Step], place: u32, step: Step) -> Planned
-    ensures { result ≡ spec.planned steps.now place step }
+/// Whether the condition of a step names the step of this place.
+fn names_step(step: Step, place: u32) -> bool
+    ensures { result ≡ spec.names_step place step }
 {
+    match step.condition {
+        Some(condition) => condition.step == place,
+        None => false,
+    }
+}
+
+/// Whether the condition of some step names the step of this place.
+fn is_read(steps: &[Step], place: u32) -> bool
+    ensures { result ≡ spec.is_read steps.now place }
+{
+    steps.iter().any(|step| names_step(*step, place))
+}
+
+/// The act of a step of this place, which is at this place among its seat's acts.
+fn planned(steps: &[Step], place: u32, at: usize, step: Step) -> Planned
+    ensures { result ≡ spec.planned steps.now place at step }
+{
+    let is_read = is_read(steps, place);
     Planned {
-        step: place,
+        place: ActPlace {
+            step: place,
+            at,
+            is_read,
+        },
         act: step.act,
+        condition: step.condition,
         reads_alone: reads_alone(steps, step),
         binds_alone: binds_alone(steps, step),
     }
 }
 
 /// The acts of a seat, in the order of the steps. Labels that others of the rivals bind are read alone, and those that
-/// others name are bound alone.
+/// others name are bound alone. What conditions of the rivals name is heard.
 fn acts_of_seat(
     alloc: Global,
     rivals: &[Step],
@@ -95,13 +119,13 @@ fn acts_of_seat(
     seat: u32,
 ) -> Result<Vec<Planned>, AllocError>
     requires { length steps.now < 2 ^ 32 }
-    ensures { IfOk result (λ acts. acts.items ≡ spec.own_acts rivals.now steps.now 0 seat) }
+    ensures { IfOk result (λ acts. acts.items ≡ spec.own_acts rivals.now steps.now 0 0 seat) }
 {
     let mut acts = Vec::new(alloc);
     let mut place = 0u32;
     for step in steps {
         if step.seat == seat {
-            acts.push(planned(rivals, place, *step))?;
+            acts.push(planned(rivals, place, acts.len(), *step))?;
         }
         place += 1;
     }
@@ -109,7 +133,7 @@ fn acts_of_seat(
 }
 
 /// The acts of each of so many seats. Labels that others of the rivals bind are read alone, and those that others name
-/// are bound alone.
+/// are bound alone. What conditions of the rivals name is heard.
 ///
 /// # Errors
 ///

@@ -113,7 +113,7 @@ fn play(
     };
     let before = standing.copy()?;
     let change = act_again(machine, entries, standing, &before, seat, planned)?;
-    standing.change(place, change, planned.step, machine.tells())?;
+    standing.change(place, change, planned.place, machine.tells())?;
     Ok(())
 }
 

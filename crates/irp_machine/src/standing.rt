@@ -14,8 +14,8 @@ use crate::marks::mark_behind_all;
 use crate::terms::Terms;
 use irp_manager::{Applied, DrainNote, ManagerState};
 use irp_plain::{
-    Change, Given, NewLabel, NewSlot, NewWord, PlainKeep, SeatState, Slot, are_labels, are_same,
-    copy_of_manager, is_same_manager, put_at,
+    ActPlace, Change, Given, NewLabel, NewSlot, NewWord, PlainKeep, SeatState, Slot, are_labels,
+    are_same, copy_of_manager, is_same_manager, put_at,
 };
 use irp_transcript::Header;
 use irp_types::{Call, IrpRef};
@@ -87,19 +87,19 @@ fn put_label(labels: &mut Vec<IrpRef>, label: Option<NewLabel>)
     }
 }
 
-/// Changes a seat by a step of its own.
+/// Changes a seat by a step of its own, in the act at this place.
 fn change_seat(
     seats: &mut Vec<SeatState>,
     seat: usize,
     change: Change,
-    step: u32,
+    place: ActPlace,
     tells: bool,
 ) -> Result<(), AllocError>
     ensures { OnOk result (seats.new.items
-        ≡ with_seat_changed seat change step tells seats.old.items) }
+        ≡ with_seat_changed seat change place tells seats.old.items) }
 {
     if seat < seats.len() {
-        seats[seat].change(change, step, tells)?;
+        seats[seat].change(change, place, tells)?;
     }
     Ok(())
 }
@@ -297,20 +297,20 @@ impl Standing {
         Ok(called.1)
     }
 
-    /// Makes a change of an atomic step of a seat.
+    /// Makes a change of an atomic step of a seat, in the act at this place.
     pub fn change(
         &mut self,
         seat: usize,
         change: Change,
-        step: u32,
+        place: ActPlace,
         tells: bool,
     ) -> Result<(), AllocError>
-        ensures { OnOk result (self.new ≡ after_change seat change step tells self.old) }
+        ensures { OnOk result (self.new ≡ after_change seat change place tells self.old) }
     {
         put_label(&mut self.labels, change.label);
         put_word(&mut self.words, change.word);
         put_slot(&mut self.slots, change.slot);
-        change_seat(&mut self.seats, seat, change, step, tells)?;
+        change_seat(&mut self.seats, seat, change, place, tells)?;
         give(&mut self.seats, change.gives)?;
         Ok(())
     }

@@ -15,13 +15,13 @@ unfolding Land
 own_first seats one acts names land zero planned is hand act_is = let same : one ≡ planned = cc in names hand (ap (λ (p : Planned). p.act) same ∙ act_is)
 own_first seats one acts names land (suc place) planned is hand act_is = land place planned is hand act_is
 
-own_land : (seats : ℕ) (rivals steps : List Step) (place seat : ℕ) → AreHandsWithin seats steps → Land seats (own_acts rivals steps place seat)
+own_land : (seats : ℕ) (rivals steps : List Step) (place at seat : ℕ) → AreHandsWithin seats steps → Land seats (own_acts rivals steps place at seat)
 unfolding Land
-own_land seats rivals [] place seat all = λ at planned is. absurd (let bad : ⊥ = cc in bad)
-own_land seats rivals (step ∷ steps) place seat all = pick (planned_of rivals place step ∷ own_acts rivals steps (place + 1) seat) (own_acts rivals steps (place + 1) seat) (step.seat == seat)
-    (own_first seats (planned_of rivals place step) (own_acts rivals steps (place + 1) seat) (all 0 step (omega arith))
-    (own_land seats rivals steps (place + 1) seat (λ k d less. all (suc k) d (omega arith))))
-    (own_land seats rivals steps (place + 1) seat (λ k d less. all (suc k) d (omega arith)))
+own_land seats rivals [] place at seat all = λ k planned is. absurd (let bad : ⊥ = cc in bad)
+own_land seats rivals (step ∷ steps) place at seat all = pick (planned_of rivals place at step ∷ own_acts rivals steps (place + 1) (at + 1) seat) (own_acts rivals steps (place + 1) at seat) (step.seat == seat)
+    (own_first seats (planned_of rivals place at step) (own_acts rivals steps (place + 1) (at + 1) seat) (all 0 step (omega arith))
+    (own_land seats rivals steps (place + 1) (at + 1) seat (λ k d less. all (suc k) d (omega arith))))
+    (own_land seats rivals steps (place + 1) at seat (λ k d less. all (suc k) d (omega arith)))
   where
     pick : (one other : List Planned) (test : Bool) → Land seats one → Land seats other → Land seats (if test then one else other)
     pick one other true first second = first
@@ -37,4 +37,4 @@ one_more seats (first ∷ lists) own all land (suc seat) place planned is = one_
 pub hands_land : (seats : ℕ) (rivals steps : List Step) (count : ℕ) → AreHandsWithin seats steps → HandsLand (acts_below rivals steps count) seats
 hands_land seats rivals steps zero all = λ seat place planned is. absurd (let bad : ⊥ = cc in bad)
 hands_land seats rivals steps (suc count) all =
-    one_more seats (acts_below rivals steps count) (own_acts rivals steps 0 count) (hands_land seats rivals steps count all) (own_land seats rivals steps 0 count all)
+    one_more seats (acts_below rivals steps count) (own_acts rivals steps 0 0 count) (hands_land seats rivals steps count all) (own_land seats rivals steps 0 0 count all)

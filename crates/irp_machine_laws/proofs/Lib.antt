@@ -7,6 +7,7 @@ pub mod LockObserving
 pub mod LockChoice
 pub mod LockHands
 pub mod Hands
+pub mod Now
 pub mod LockLaw
 pub mod LockOpening
 pub mod SlotLeaves

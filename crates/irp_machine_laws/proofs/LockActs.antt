@@ -1,6 +1,6 @@
 -- Each act at a remove lock is a step at the table that the machine stands for.
 use Rattle.std.proofs.Common.{◌≡◌, ◌≢◌, ◌⊎◌, inl, inr, ℕ, zero, suc, ◌+◌, ◌-◌, ◌%◌, ◌<◌, ◌≤◌, Bool, true, false, ◌&&◌, eqb, eq-eqb, ne_eqb, List, [], ◌∷◌, ◌++◌, length, get_or, set, Option, Some, None, if◌then◌else◌, refl, sym, ap, ◌∙◌, subst, arith, length-append}
-use Rattle.std.specs.Prelude.{slice_get, nat_eq, ◌==◌, position}
+use Rattle.std.specs.Prelude.{nat_eq, ◌==◌, position}
 use Rattle.std.specs.List.{remove}
 use Rattle.std.specs.Option.{option_map_or}
 use Rattle.std.proofs.lemmas.Bool.{eqb-true, lt-leb, lt-ltb, le-ltb}
@@ -19,6 +19,8 @@ use Rattle.irp_remove.proofs.Knowing.{acquired_clear, acquired_taken, trying_her
 use Rattle.irp_plain.specs.declared.parts.After.TheVariants.{In, Told}
 use Rattle.irp_plain.specs.declared.parts.Change.{Change}
 use Rattle.irp_plain.specs.declared.parts.Held.{Held as Reference}
+use Rattle.irp_plain.specs.declared.parts.ActPlace.{ActPlace}
+use Rattle.irp_machine.specs.Conditions.{act_now}
 use Rattle.irp_machine.specs.declared.parts.Planned.{Planned}
 use Rattle.irp_plain.specs.declared.parts.Stage.{Stage}
 use Rattle.irp_plain.specs.declared.parts.Stage.TheVariants as stages
@@ -106,7 +108,7 @@ counts_as lock tag one is k under =
     λ i. one_if (eqb (a i) k && eqb (b i) under)
 
 module _ (rules : RulesValue) (standing : StandingValue) (key : Parties) (table : LockTable) (r : StandsFor rules standing key table) (seat : ℕ) (below : seat < length standing.seats)
-    (number : ℕ) where
+    (which : ActPlace) where
   abbrev own : SeatValue
   own = get_or standing.seats seat new_seat
 
@@ -115,7 +117,7 @@ module _ (rules : RulesValue) (standing : StandingValue) (key : Parties) (table 
 
   -- what a step leads to
   abbrev pub After : (Change → LockTable → LockTable → Type 0) → Change → Type 0
-  After kind step = (new : LockTable) × kind step table new × StandsFor rules (after_change seat step number rules.tells standing) key new
+  After kind step = (new : LockTable) × kind step table new × StandsFor rules (after_change seat step which rules.tells standing) key new
 
   -- where the seat tries nothing before and behind a step
   pub quiet_tries : (after : SeatValue) → tried acts own ≡ None → tried acts after ≡ None → (lock : ℕ) → tries lock acts after ≡ tries lock acts own
@@ -125,18 +127,18 @@ module _ (rules : RulesValue) (standing : StandingValue) (key : Parties) (table 
   quiet_busy after same before behind = λ i. length (same i) + option_map_or (λ one. 1) ((behind ∙ sym before) i) 0
 
   -- a step that leaves the locks leaves the table
-  pub leaves : (step : Change) → Leaves step → tried acts own ≡ None → StandsFor rules (after_change seat step number rules.tells standing) key table
+  pub leaves : (step : Change) → Leaves step → tried acts own ≡ None → StandsFor rules (after_change seat step which rules.tells standing) key table
   leaves step gone before =
-      let after : SeatValue = after_step step number rules.tells own in
+      let after : SeatValue = after_step step which rules.tells own in
       let held : after.held ≡ own.held = λ i. with_more (gone.2 i) (without (gone.1 i) own.held) in
       let learned : after.learned ≡ own.learned = λ i. with_more (gone.4 i) own.learned in
-      let behind : tried acts after ≡ None = not_tried after.stage (slice_get acts after.made) (gone.5 own.made) in
+      let behind : tried acts after ≡ None = not_tried after.stage (act_now acts after) gone.5 in
       let shift = still_shift rules standing key table r seat below after held (quiet_tries after before behind) (quiet_busy after held before behind) learned in
-      let words : table.words ≡ (after_change seat step number rules.tells standing).words =
+      let words : table.words ≡ (after_change seat step which rules.tells standing).words =
       r.words ∙ (λ i. with_word (sym gone.0 i) standing.words) in
-      let seats : (after_change seat step number rules.tells standing).seats ≡ set standing.seats seat after =
+      let seats : (after_change seat step which rules.tells standing).seats ≡ set standing.seats seat after =
       (λ i. with_given (gone.3 i) (with_item seat after standing.seats)) ∙ item_set seat after standing.seats below in
-      shifted rules standing key table r seat below (after_change seat step number rules.tells standing) table.words table.views after r.kept words seats shift
+      shifted rules standing key table r seat below (after_change seat step which rules.tells standing) table.words table.views after r.kept words seats shift
 
   -- a refusal leaves it too
   pub refuses : (answer : WordReply) → is_refusal answer ≡ true → tried acts own ≡ None → After IsRefused (change.told answer)
@@ -144,15 +146,15 @@ module _ (rules : RulesValue) (standing : StandingValue) (key : Parties) (table 
 
   -- a step that writes a word and changes one party's view
   pub writes : (step : Change) (lock word party : ℕ) (view : View) → lock < length standing.words → step.word ≡ Some (record { lock = lock; word = word }) → step.gives ≡ None
-      → Kept key (moved table lock word party view) → Shift rules standing key table r seat below (set table.views party view) (after_step step number rules.tells own)
-      → StandsFor rules (after_change seat step number rules.tells standing) key (moved table lock word party view)
+      → Kept key (moved table lock word party view) → Shift rules standing key table r seat below (set table.views party view) (after_step step which rules.tells own)
+      → StandsFor rules (after_change seat step which rules.tells standing) key (moved table lock word party view)
   writes step lock word party view less wrote gone kept shift =
-      let after : SeatValue = after_step step number rules.tells own in
-      let words : set table.words lock word ≡ (after_change seat step number rules.tells standing).words =
+      let after : SeatValue = after_step step which rules.tells own in
+      let words : set table.words lock word ≡ (after_change seat step which rules.tells standing).words =
       ap (λ (ws : List ℕ). set ws lock word) r.words ∙ (sym (item_set lock word standing.words less) ∙ (λ i. with_word (sym wrote i) standing.words)) in
-      let seats : (after_change seat step number rules.tells standing).seats ≡ set standing.seats seat after =
+      let seats : (after_change seat step which rules.tells standing).seats ≡ set standing.seats seat after =
       (λ i. with_given (gone i) (with_item seat after standing.seats)) ∙ item_set seat after standing.seats below in
-      shifted rules standing key table r seat below (after_change seat step number rules.tells standing) (set table.words lock word) (set table.views party view) after kept words seats shift
+      shifted rules standing key table r seat below (after_change seat step which rules.tells standing) (set table.words lock word) (set table.views party view) after kept words seats shift
 
   -- ---- a lock that is there
   module _ (lock : ℕ) (less : lock < length standing.words) where
@@ -188,7 +190,7 @@ module _ (rules : RulesValue) (standing : StandingValue) (key : Parties) (table 
           let party = idle.0 in
           let seen = idle.1 in
           let at = idle.2 in
-          let after : SeatValue = after_step acquired_step number rules.tells own in
+          let after : SeatValue = after_step acquired_step which rules.tells own in
           let done = adds key table r.kept r.homes lock inside tag party seen at in
           let view_is : acquired tag lock found (Stake Idle seen) ≡ Stake (Held lock tag) seen = acquired_clear tag lock found seen (Stake Idle seen) refl even in
           let tries_same = quiet_tries after before refl in
@@ -209,18 +211,18 @@ module _ (rules : RulesValue) (standing : StandingValue) (key : Parties) (table 
               writes = refl;
               after = sym (ap (λ (b : Bool). if b then Told (Word reply.Acquired) else In stages.Tried) (eq-eqb (found % 2) 0 even));
             },
-            subst (λ (view : View). StandsFor rules (after_change seat acquired_step number rules.tells standing) key (moved table lock (found + 2) party view)) (sym view_is) stands,
+            subst (λ (view : View). StandsFor rules (after_change seat acquired_step which rules.tells standing) key (moved table lock (found + 2) party view)) (sym view_is) stands,
           )
 
       abbrev tried_step : Change
       tried_step = record (change.only (In stages.Tried)) { word = Some (record { lock = lock; word = found + 2 }) }
 
-      acquires_odd : tried_at stages.Tried (slice_get acts own.made) ≡ Some lock → found % 2 ≢ 0 → After (IsAcquire lock tag) tried_step
+      acquires_odd : tried_at stages.Tried (act_now acts own) ≡ Some lock → found % 2 ≢ 0 → After (IsAcquire lock tag) tried_step
       acquires_odd behind odd =
           let party = idle.0 in
           let seen = idle.1 in
           let at = idle.2 in
-          let after : SeatValue = after_step tried_step number rules.tells own in
+          let after : SeatValue = after_step tried_step which rules.tells own in
           let done = adds key table r.kept r.homes lock inside tag party seen at in
           let view_is : acquired tag lock found (Stake Idle seen) ≡ Stake (Trying lock) (lock ∷ seen) = acquired_taken tag lock found seen (Stake Idle seen) refl odd in
           let none : (l : ℕ) → tries l acts own ≡ 0 = λ l. ap (λ o. option_map_or (λ one. one_if (nat_eq one l)) o 0) before in
@@ -244,11 +246,11 @@ module _ (rules : RulesValue) (standing : StandingValue) (key : Parties) (table 
               writes = refl;
               after = sym (ap (λ (b : Bool). if b then Told (Word reply.Acquired) else In stages.Tried) (ne_eqb (found % 2) 0 odd));
             },
-            subst (λ (view : View). StandsFor rules (after_change seat tried_step number rules.tells standing) key (moved table lock (found + 2) party view)) (sym view_is) stands,
+            subst (λ (view : View). StandsFor rules (after_change seat tried_step which rules.tells standing) key (moved table lock (found + 2) party view)) (sym view_is) stands,
           )
 
       -- an acquire's first step
-      pub acquires : tried_at stages.Tried (slice_get acts own.made) ≡ Some lock → After (IsAcquire lock tag) (change.acquire found lock tag)
+      pub acquires : tried_at stages.Tried (act_now acts own) ≡ Some lock → After (IsAcquire lock tag) (change.acquire found lock tag)
       acquires behind =
           let pick : ℕ → Change = λ word.
           if found % 2 == 0 then record (change.told reply.Acquired) {
@@ -280,7 +282,7 @@ module _ (rules : RulesValue) (standing : StandingValue) (key : Parties) (table 
           let view = trying_view lock some_one.1 some_one.3 in
           let seen = view.0 in
           let at : get_elem? table.views party ≡ some (Stake (Trying lock) seen) = some_one.2 ∙ ap some view.1 in
-          let after : SeatValue = after_step missed_step number rules.tells own in
+          let after : SeatValue = after_step missed_step which rules.tells own in
           let done = gives_up key table r.kept r.homes lock inside party (Trying lock) seen at (trying_here lock) (trying_else lock) in
           let enough = two_there key table r.kept r.homes lock inside party (Trying lock) seen at (trying_here lock) in
           let own_busy = one_tried (tried acts own) lock now in
@@ -317,7 +319,7 @@ module _ (rules : RulesValue) (standing : StandingValue) (key : Parties) (table 
           let view = holding_view lock tag some_one.1 some_one.3 in
           let seen = view.0 in
           let at : get_elem? table.views party ≡ some (Stake (Held lock tag) seen) = some_one.2 ∙ ap some view.1 in
-          let after : SeatValue = after_step (back_step (found - 2)) number rules.tells own in
+          let after : SeatValue = after_step (back_step (found - 2)) which rules.tells own in
           let done = gives_up key table r.kept r.homes lock inside party (Held lock tag) seen at (held_here lock tag) (held_else lock tag) in
           let enough = two_there key table r.kept r.homes lock inside party (Held lock tag) seen at (held_here lock tag) in
           let held_now : after.held ≡ remove own.held place = ap (λ (b : Bool). if b then remove own.held place else own.held) (lt-ltb place (length own.held) is.0) in

@@ -14,6 +14,8 @@ use Rattle.irp_script_reader.specs.declared.act.StepAct.TheVariants as does
 use Rattle.irp_remove.specs.declared.views.Stage.TheVariants.{Trying, Held}
 use Rattle.irp_remove.specs.declared.views.Parties.{Parties}
 use Rattle.irp_plain.specs.declared.parts.Change.{Change}
+use Rattle.irp_plain.specs.declared.parts.ActPlace.{ActPlace}
+use Rattle.irp_machine.specs.Conditions.{act_now}
 use Rattle.irp_machine.specs.declared.parts.Planned.{Planned}
 use Rattle.irp_plain.specs.declared.parts.Stage.{Stage}
 use Rattle.irp_plain.specs.declared.parts.Stage.TheVariants as stages
@@ -35,7 +37,7 @@ none_else stages.Tried found planned is other = ap (option_and_then (λ (planned
 none_else other found planned is none = refl
 
 module _ (rules : RulesValue) (standing : StandingValue) (key : Parties) (table : LockTable) (r : StandsFor rules standing key table) (seat : ℕ) (below : seat < length standing.seats)
-    (number : ℕ) (planned : Planned) (planned_is : slice_get (get_or rules.acts seat []) (get_or standing.seats seat new_seat).made ≡ Some planned) where
+    (which : ActPlace) (planned : Planned) (planned_is : act_now (get_or rules.acts seat []) (get_or standing.seats seat new_seat) ≡ Some planned) where
   abbrev own : SeatValue
   own = get_or standing.seats seat new_seat
 
@@ -43,14 +45,14 @@ module _ (rules : RulesValue) (standing : StandingValue) (key : Parties) (table 
   acts = get_or rules.acts seat []
 
   abbrev Leads : (Change → LockTable → LockTable → Type 0) → Change → Type 0
-  Leads kind step = After rules standing key table r seat below number kind step
+  Leads kind step = After rules standing key table r seat below which kind step
 
   -- refusals, and the other way that an act may go
   abbrev Or : (Change → LockTable → LockTable → Type 0) → Change → LockTable → LockTable → Type 0
   Or kind step one new = IsRefused step one new ⊎ kind step one new
 
   refused : (kind : Change → LockTable → LockTable → Type 0) (answer : WordReply) → is_refusal answer ≡ true → tried acts own ≡ None → Leads (Or kind) (change.told answer)
-  refused kind answer plain before = let done = refuses rules standing key table r seat below number answer plain before in (done.0, inl done.1, done.2)
+  refused kind answer plain before = let done = refuses rules standing key table r seat below which answer plain before in (done.0, inl done.1, done.2)
 
   goes : (kind : Change → LockTable → LockTable → Type 0) (step : Change) → Leads kind step → Leads (Or kind) step
   goes kind step done = (done.0, inr done.1, done.2)
@@ -64,41 +66,41 @@ module _ (rules : RulesValue) (standing : StandingValue) (key : Parties) (table 
 
     acquire_anew : (tag : ℕ) → acquired_by planned.act ≡ Some lock → is_trying own.stage ≡ false → Leads (Or (IsAcquire lock tag)) (change.acquiring_anew word own lock tag)
     acquire_anew tag act_is still =
-        let before : tried acts own ≡ None = not_tried own.stage (slice_get acts own.made) still in
-        let behind : tried_at stages.Tried (slice_get acts own.made) ≡ Some lock = ap (option_and_then (λ (planned : Planned). acquired_by planned.act)) planned_is ∙ act_is in
+        let before : tried acts own ≡ None = not_tried own.stage (act_now acts own) still in
+        let behind : tried_at stages.Tried (act_now acts own) ≡ Some lock = ap (option_and_then (λ (planned : Planned). acquired_by planned.act)) planned_is ∙ act_is in
         subst (λ (word : ℕ). Leads (Or (IsAcquire lock tag)) (change.acquiring_anew word own lock tag)) word_is
         (by_test (Leads (Or (IsAcquire lock tag))) (nat_le change.most_held (length own.held)) _ _
         (λ full. refused (IsAcquire lock tag) reply.SeatFull refl before)
         (λ room. by_test (Leads (Or (IsAcquire lock tag))) (list_any (is_removed lock) own.learned) _ _
         (λ removed. refused (IsAcquire lock tag) reply.DeletePending refl before)
-        (λ unknown. goes (IsAcquire lock tag) _ (acquires rules standing key table r seat below number lock less tag before (leb-false 64 (length own.held) room) behind))))
+        (λ unknown. goes (IsAcquire lock tag) _ (acquires rules standing key table r seat below which lock less tag before (leb-false 64 (length own.held) room) behind))))
 
     release : (tag : ℕ) → acquired_by planned.act ≡ None → Leads (Or (IsGivenBack lock (Held lock tag) reply.Done)) (change.releasing word own lock tag)
     release tag other =
         subst (λ (word : ℕ). Leads (Or (IsGivenBack lock (Held lock tag) reply.Done)) (change.releasing word own lock tag)) word_is
-        (releases rules standing key table r seat below number lock less tag (none_else own.stage (slice_get acts own.made) planned planned_is other))
+        (releases rules standing key table r seat below which lock less tag (none_else own.stage (act_now acts own) planned planned_is other))
 
     begin_anew : (tag : ℕ) → acquired_by planned.act ≡ None
         → Leads (Or (IsBegin seat lock)) (if is_some (position (is_held lock tag) own.held) then change.begin word lock else change.told reply.NotHeld)
     begin_anew tag other =
-        let before = none_else own.stage (slice_get acts own.made) planned planned_is other in
+        let before = none_else own.stage (act_now acts own) planned planned_is other in
         by_test (Leads (Or (IsBegin seat lock))) (is_some (position (is_held lock tag) own.held)) _ _
         (λ yes_held. subst (λ (word : ℕ). Leads (Or (IsBegin seat lock)) (change.begin word lock)) word_is
-        (goes (IsBegin seat lock) _ (begins rules standing key table r seat below number lock less before)))
+        (goes (IsBegin seat lock) _ (begins rules standing key table r seat below which lock less before)))
         (λ none. refused (IsBegin seat lock) reply.NotHeld refl before)
 
     look : acquired_by planned.act ≡ None → Leads (Or (IsLook seat lock)) (change.looking word lock)
     look other =
-        let before = none_else own.stage (slice_get acts own.made) planned planned_is other in
+        let before = none_else own.stage (act_now acts own) planned planned_is other in
         subst (λ (word : ℕ). Leads (Or (IsLook seat lock)) (change.looking word lock)) word_is
-        (goes (IsLook seat lock) _ (looks rules standing key table r seat below number lock less before))
+        (goes (IsLook seat lock) _ (looks rules standing key table r seat below which lock less before))
 
     retreat : (tag : ℕ) → acquired_by planned.act ≡ Some lock → own.stage ≡ stages.Tried
         → Leads (IsGivenBack lock (Trying lock) reply.DeletePending) (change.acquiring_at stages.Tried word own lock tag)
     retreat tag act_is at =
-        let now : tried acts own ≡ Some lock = ap (λ stage. tried_at stage (slice_get acts own.made)) at ∙ (ap (option_and_then (λ (planned : Planned). acquired_by planned.act)) planned_is ∙ act_is) in
+        let now : tried acts own ≡ Some lock = ap (λ stage. tried_at stage (act_now acts own)) at ∙ (ap (option_and_then (λ (planned : Planned). acquired_by planned.act)) planned_is ∙ act_is) in
         subst (λ (word : ℕ). Leads (IsGivenBack lock (Trying lock) reply.DeletePending) (change.acquiring_at stages.Tried word own lock tag)) word_is
-        (missed rules standing key table r seat below number lock less now)
+        (missed rules standing key table r seat below which lock less now)
 
   -- an act whose lock is there
   module _ (word : ℕ) where
@@ -133,18 +135,18 @@ module _ (rules : RulesValue) (standing : StandingValue) (key : Parties) (table 
   acquire_nowhere : (lock : LockNo) (tag : ℕ) → slice_get standing.words lock.0 ≡ None → acquired_by planned.act ≡ Some lock.0
       → (stage : Stage) → own.stage ≡ stage → Leads (AtLock seat (Acquire lock tag) stage) (change.told reply.NoLock)
   acquire_nowhere lock tag none act_is stages.Tried at =
-      absurd (none_there lock.0 none (ap (λ stage. tried_at stage (slice_get acts own.made)) at ∙ (ap (option_and_then (λ (planned : Planned). acquired_by planned.act)) planned_is ∙ act_is)))
-  acquire_nowhere lock tag none act_is other at = refused (IsAcquire lock.0 tag) reply.NoLock refl (not_tried own.stage (slice_get acts own.made) (ap is_trying at))
+      absurd (none_there lock.0 none (ap (λ stage. tried_at stage (act_now acts own)) at ∙ (ap (option_and_then (λ (planned : Planned). acquired_by planned.act)) planned_is ∙ act_is)))
+  acquire_nowhere lock tag none act_is other at = refused (IsAcquire lock.0 tag) reply.NoLock refl (not_tried own.stage (act_now acts own) (ap is_trying at))
 
   begin_nowhere : (lock : LockNo) (tag : ℕ) → acquired_by planned.act ≡ None → (stage : Stage) → Leads (AtLock seat (BeginRemove lock tag) stage) (change.told reply.NoLock)
-  begin_nowhere lock tag other stages.Begun = refused (IsGivenBack lock.0 (Held lock.0 tag) reply.Done) reply.NoLock refl (none_else own.stage (slice_get acts own.made) planned planned_is other)
-  begin_nowhere lock tag other stage = refused (IsBegin seat lock.0) reply.NoLock refl (none_else own.stage (slice_get acts own.made) planned planned_is other)
+  begin_nowhere lock tag other stages.Begun = refused (IsGivenBack lock.0 (Held lock.0 tag) reply.Done) reply.NoLock refl (none_else own.stage (act_now acts own) planned planned_is other)
+  begin_nowhere lock tag other stage = refused (IsBegin seat lock.0) reply.NoLock refl (none_else own.stage (act_now acts own) planned planned_is other)
 
   nowhere : (on : LockAct) → planned.act ≡ does.OnLock on → slice_get standing.words (change.lock_of on) ≡ None → Leads (AtLock seat on own.stage) (change.told reply.NoLock)
   nowhere (Acquire lock tag) act_is none = acquire_nowhere lock tag none (ap acquired_by act_is) own.stage refl
-  nowhere (Release lock tag) act_is none = refused (IsGivenBack lock.0 (Held lock.0 tag) reply.Done) reply.NoLock refl (none_else own.stage (slice_get acts own.made) planned planned_is (ap acquired_by act_is))
+  nowhere (Release lock tag) act_is none = refused (IsGivenBack lock.0 (Held lock.0 tag) reply.Done) reply.NoLock refl (none_else own.stage (act_now acts own) planned planned_is (ap acquired_by act_is))
   nowhere (BeginRemove lock tag) act_is none = begin_nowhere lock tag (ap acquired_by act_is) own.stage
-  nowhere (AsksDrained lock) act_is none = refused (IsLook seat lock.0) reply.NoLock refl (none_else own.stage (slice_get acts own.made) planned planned_is (ap acquired_by act_is))
+  nowhere (AsksDrained lock) act_is none = refused (IsLook seat lock.0) reply.NoLock refl (none_else own.stage (act_now acts own) planned planned_is (ap acquired_by act_is))
 
   -- each act at a lock
   pub lock_step : (on : LockAct) → planned.act ≡ does.OnLock on → Leads (AtLock seat on own.stage) (change.on_lock standing.words own on)

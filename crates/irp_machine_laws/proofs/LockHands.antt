@@ -14,6 +14,7 @@ use Rattle.irp_transcript.specs.declared.word_line.WordReply.TheVariants as repl
 use Rattle.irp_remove.specs.declared.views.Parties.{Parties}
 use Rattle.irp_plain.specs.declared.parts.Change.{Change}
 use Rattle.irp_plain.specs.declared.parts.Held.{Held as Reference}
+use Rattle.irp_plain.specs.declared.parts.ActPlace.{ActPlace}
 use Rattle.irp_machine.specs.declared.parts.Planned.{Planned}
 use Rattle.irp_plain.specs.Changes as change
 use Rattle.irp_plain.specs.Lists.{with_item}
@@ -28,7 +29,7 @@ use Rattle.irp_machine_laws.proofs.LockShift.{item_set, same_learned}
 use Rattle.irp_machine_laws.proofs.LockActs.{After, by_test, by_found, leaves, quiet_tries, none_tried, references_more, references_less, counts_as}
 
 module _ (rules : RulesValue) (standing : StandingValue) (key : Parties) (table : LockTable) (r : StandsFor rules standing key table) (seat : ℕ) (below : seat < length standing.seats)
-    (number : ℕ) (before : tried (get_or rules.acts seat []) (get_or standing.seats seat new_seat) ≡ None) (given : Hand) (taker : given.to < length standing.seats) where
+    (which : ActPlace) (before : tried (get_or rules.acts seat []) (get_or standing.seats seat new_seat) ≡ None) (given : Hand) (taker : given.to < length standing.seats) where
   abbrev own : SeatValue
   own = get_or standing.seats seat new_seat
 
@@ -43,7 +44,7 @@ module _ (rules : RulesValue) (standing : StandingValue) (key : Parties) (table 
     hand_step = record (change.told reply.Done) { drops = Some place; gives = Some (record { seat = given.to; held = moved_one }) }
 
     abbrev after : SeatValue
-    after = after_step hand_step number rules.tells own
+    after = after_step hand_step which rules.tells own
 
     abbrev middle : List SeatValue
     middle = set standing.seats seat after
@@ -60,7 +61,7 @@ module _ (rules : RulesValue) (standing : StandingValue) (key : Parties) (table 
     taker_middle : given.to < length middle
     taker_middle = let long = length-set standing.seats seat after in omega arith
 
-    seats_are : (after_change seat hand_step number rules.tells standing).seats ≡ last
+    seats_are : (after_change seat hand_step which rules.tells standing).seats ≡ last
     seats_are =
         ap (λ (seats : List SeatValue). with_item given.to (with_held moved_one (get_or seats given.to new_seat)) seats) (item_set seat after standing.seats below)
         ∙ item_set given.to taker_after middle taker_middle
@@ -125,10 +126,10 @@ module _ (rules : RulesValue) (standing : StandingValue) (key : Parties) (table 
         omega arith)
         (λ ne. subst (λ (s : SeatValue). length s.held ≤ 64) (sym (get_or-set_other middle given.to other taker_after new_seat ne)) (few_middle other))
 
-    hands_over : StandsFor rules (after_change seat hand_step number rules.tells standing) key table
+    hands_over : StandsFor rules (after_change seat hand_step which rules.tells standing) key table
     hands_over =
         let seats = seats_are in
-        let new : StandingValue = after_change seat hand_step number rules.tells standing in
+        let new : StandingValue = after_change seat hand_step which rules.tells standing in
         let long : length new.seats ≡ length standing.seats = ap length seats ∙ (length-set middle given.to taker_after ∙ length-set standing.seats seat after) in
         record {
           kept = r.kept;
@@ -145,7 +146,7 @@ module _ (rules : RulesValue) (standing : StandingValue) (key : Parties) (table 
               omega arith)
               (references_more lock tag taker_before.held moved_one));
           tried_is = λ lock. r.tried_is lock ∙ sym (ap (over_seats (tries lock) rules.acts) seats ∙ moves_over (tries lock) 0
-              (let same = quiet_tries rules standing key table r seat below number after before refl lock in omega arith)
+              (let same = quiet_tries rules standing key table r seat below which after before refl lock in omega arith)
               (omega arith));
           busy_is = r.busy_is ∙ sym (ap (over_seats keeps_busy rules.acts) seats ∙ moves_over keeps_busy 1
               (let none = none_tried (tried acts own) before in let less = shorter in omega arith)
@@ -157,13 +158,13 @@ module _ (rules : RulesValue) (standing : StandingValue) (key : Parties) (table 
           all_made = r.all_made;
         }
 
-  refused : (answer : Rattle.irp_transcript.specs.declared.word_line.WordReply.WordReply) → After rules standing key table r seat below number Stays (change.told answer)
-  refused answer = (table, (refl, refl), leaves rules standing key table r seat below number (change.told answer) (refl, refl, refl, refl, refl, λ made. refl) before)
+  refused : (answer : Rattle.irp_transcript.specs.declared.word_line.WordReply.WordReply) → After rules standing key table r seat below which Stays (change.told answer)
+  refused answer = (table, (refl, refl), leaves rules standing key table r seat below which (change.told answer) (refl, refl, refl, refl, refl, refl) before)
 
   -- each hand
-  pub hand_step_keeps : After rules standing key table r seat below number Stays (change.hand standing.words standing.seats own given)
+  pub hand_step_keeps : After rules standing key table r seat below which Stays (change.hand standing.words standing.seats own given)
   hand_step_keeps =
-      let P = After rules standing key table r seat below number Stays in
+      let P = After rules standing key table r seat below which Stays in
       by_test P (nat_le (length standing.words) given.lock.0) _ _
       (λ nowhere. refused reply.NoLock)
       (λ there. by_found P (position (is_held given.lock.0 given.tag) own.held) (λ place. change.handing given place (change.count_held standing.seats given.to)) (change.told reply.NotHeld)

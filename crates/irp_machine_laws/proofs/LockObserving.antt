@@ -19,6 +19,7 @@ use Rattle.irp_plain.specs.declared.parts.After.TheVariants.{In, Told}
 use Rattle.irp_plain.specs.declared.parts.Change.{Change}
 use Rattle.irp_plain.specs.declared.parts.Learned.{Learned}
 use Rattle.irp_plain.specs.declared.parts.Learned.TheVariants.{Removed, Drained}
+use Rattle.irp_plain.specs.declared.parts.ActPlace.{ActPlace}
 use Rattle.irp_machine.specs.declared.parts.Planned.{Planned}
 use Rattle.irp_plain.specs.declared.parts.Stage.TheVariants as stages
 use Rattle.irp_plain.specs.declared.answered.Answered.TheVariants.{Word}
@@ -135,7 +136,7 @@ module _ (locks : ℕ) (own after : SeatValue) (watch : Watch) (is : IsLearned l
 -- ---- the steps
 
 module _ (rules : RulesValue) (standing : StandingValue) (key : Parties) (table : LockTable) (r : StandsFor rules standing key table) (seat : ℕ) (below : seat < length standing.seats)
-    (number : ℕ) (lock : ℕ) (less : lock < length standing.words) where
+    (which : ActPlace) (lock : ℕ) (less : lock < length standing.words) where
   abbrev own : SeatValue
   own = get_or standing.seats seat new_seat
 
@@ -146,10 +147,10 @@ module _ (rules : RulesValue) (standing : StandingValue) (key : Parties) (table 
   found = get_or table.words lock 0
 
   abbrev Leads : (Change → LockTable → LockTable → Type 0) → Change → Type 0
-  Leads kind step = After rules standing key table r seat below number kind step
+  Leads kind step = After rules standing key table r seat below which kind step
 
   within : lock < key.locks
-  within = inside rules standing key table r seat below number lock less
+  within = inside rules standing key table r seat below which lock less
 
   -- the machine sets the bit as the table does
   bit_is : change.with_bit found ≡ bit_or found 1
@@ -167,21 +168,21 @@ module _ (rules : RulesValue) (standing : StandingValue) (key : Parties) (table 
 
     -- the observer's step, where the step of the machine and what is known behind it are these
     begins_so : (step : Change) (watch watch_2 : Watch) → get_elem? table.views seat ≡ some (Observer watch) → lock < length watch.began
-        → step.word ≡ Some (record { lock = lock; word = bit_or found 1 }) → step.gives ≡ None → tried acts (after_step step number rules.tells own) ≡ None
-        → (after_step step number rules.tells own).held ≡ own.held → begun lock found (Observer watch) ≡ Observer watch_2
-        → IsLearned key.locks (after_step step number rules.tells own) watch_2
+        → step.word ≡ Some (record { lock = lock; word = bit_or found 1 }) → step.gives ≡ None → tried acts (after_step step which rules.tells own) ≡ None
+        → (after_step step which rules.tells own).held ≡ own.held → begun lock found (Observer watch) ≡ Observer watch_2
+        → IsLearned key.locks (after_step step which rules.tells own) watch_2
         → step.after ≡ (if found % 2 == 0 then In stages.Begun else Told (Word reply.AlreadyRemoving)) → Leads (IsBegin seat lock) step
     begins_so step watch watch_2 at room wrote gone behind same view_is learned answered =
-        let after : SeatValue = after_step step number rules.tells own in
+        let after : SeatValue = after_step step which rules.tells own in
         let done = begins_it key table r.kept r.homes lock within seat watch at room in
         let shift = observer_shift rules standing key table r seat below watch watch_2 at after same
-        (quiet_tries rules standing key table r seat below number after before behind) (quiet_busy rules standing key table r seat below number after same before behind)
+        (quiet_tries rules standing key table r seat below which after before behind) (quiet_busy rules standing key table r seat below which after same before behind)
         learned (there_below table.views seat (Observer watch) at) in
         let kept = subst (λ (view : View). Kept key (moved table lock (bit_or found 1) seat view)) view_is done.kept in
-        let stands = writes rules standing key table r seat below number step lock (bit_or found 1) seat (Observer watch_2) less wrote gone kept shift in (
+        let stands = writes rules standing key table r seat below which step lock (bit_or found 1) seat (Observer watch_2) less wrote gone kept shift in (
           moved table lock (bit_or found 1) seat (begun lock found (Observer watch)),
           record { watch = watch; takes = (at, refl, done.event); writes = wrote; after = answered },
-          subst (λ (view : View). StandsFor rules (after_change seat step number rules.tells standing) key (moved table lock (bit_or found 1) seat view)) (sym view_is) stands,
+          subst (λ (view : View). StandsFor rules (after_change seat step which rules.tells standing) key (moved table lock (bit_or found 1) seat view)) (sym view_is) stands,
         )
 
     pub begins : Leads (IsBegin seat lock) (change.begin found lock)
@@ -198,7 +199,7 @@ module _ (rules : RulesValue) (standing : StandingValue) (key : Parties) (table 
         (dite (ℕ_discrete (found % 2) 0)
         (λ even.
         let test : (found % 2 == 0) ≡ true = eq-eqb (found % 2) 0 even in
-        let after : SeatValue = after_step began_step number rules.tells own in
+        let after : SeatValue = after_step began_step which rules.tells own in
         let done = begins_so began_step watch (record watch { began = set watch.began lock true }) at room refl refl refl refl
         (ap (λ (b : Bool). Observer (if b then record watch { began = set watch.began lock true } else record watch { saw = set watch.saw lock true })) test)
         (learned_began key.locks own after watch is lock few within refl)
@@ -206,7 +207,7 @@ module _ (rules : RulesValue) (standing : StandingValue) (key : Parties) (table 
         subst (λ (b : Bool). Leads (IsBegin seat lock) (record (change.only (if b then In stages.Begun else Told (Word reply.AlreadyRemoving))) { word = Some (record { lock = lock; word = bit_or found 1 }); learns = Some (Removed lock) })) (sym test) done)
         (λ odd.
         let test : (found % 2 == 0) ≡ false = ne_eqb (found % 2) 0 odd in
-        let after : SeatValue = after_step saw_step number rules.tells own in
+        let after : SeatValue = after_step saw_step which rules.tells own in
         let done = begins_so saw_step watch (record watch { saw = set watch.saw lock true }) at room refl refl refl refl
         (ap (λ (b : Bool). Observer (if b then record watch { began = set watch.began lock true } else record watch { saw = set watch.saw lock true })) test)
         (learned_saw key.locks own after watch is lock few within refl)
@@ -216,24 +217,24 @@ module _ (rules : RulesValue) (standing : StandingValue) (key : Parties) (table 
   module _ (before : tried acts own ≡ None) where
     -- the observer's look, where the step of the machine and what is known behind it are these
     looks_so : (step : Change) (watch watch_2 : Watch) → get_elem? table.views seat ≡ some (Observer watch)
-        → step.word ≡ None → step.gives ≡ None → tried acts (after_step step number rules.tells own) ≡ None → (after_step step number rules.tells own).held ≡ own.held
-        → looked lock found (Observer watch) ≡ Observer watch_2 → IsLearned key.locks (after_step step number rules.tells own) watch_2
+        → step.word ≡ None → step.gives ≡ None → tried acts (after_step step which rules.tells own) ≡ None → (after_step step which rules.tells own).held ≡ own.held
+        → looked lock found (Observer watch) ≡ Observer watch_2 → IsLearned key.locks (after_step step which rules.tells own) watch_2
         → step.after ≡ Told (Word (if found == 1 then reply.Yes else reply.Busy found)) → Leads (IsLook seat lock) step
     looks_so step watch watch_2 at wrote gone behind same view_is learned answered =
-        let after : SeatValue = after_step step number rules.tells own in
+        let after : SeatValue = after_step step which rules.tells own in
         let done = looks_at key table r.kept r.homes lock within seat watch at in
         let shift = observer_shift rules standing key table r seat below watch watch_2 at after same
-        (quiet_tries rules standing key table r seat below number after before behind) (quiet_busy rules standing key table r seat below number after same before behind)
+        (quiet_tries rules standing key table r seat below which after before behind) (quiet_busy rules standing key table r seat below which after same before behind)
         learned (there_below table.views seat (Observer watch) at) in
         let kept = subst (λ (view : View). Kept key (moved table lock found seat view)) view_is done.kept in
-        let words : set table.words lock found ≡ (after_change seat step number rules.tells standing).words =
+        let words : set table.words lock found ≡ (after_change seat step which rules.tells standing).words =
         set-get_or table.words lock 0 ∙ (r.words ∙ (λ i. with_word (sym wrote i) standing.words)) in
-        let seats : (after_change seat step number rules.tells standing).seats ≡ set standing.seats seat after =
+        let seats : (after_change seat step which rules.tells standing).seats ≡ set standing.seats seat after =
         (λ i. with_given (gone i) (with_item seat after standing.seats)) ∙ item_set seat after standing.seats below in
-        let stands = shifted rules standing key table r seat below (after_change seat step number rules.tells standing) (set table.words lock found) (set table.views seat (Observer watch_2)) after kept words seats shift in (
+        let stands = shifted rules standing key table r seat below (after_change seat step which rules.tells standing) (set table.words lock found) (set table.views seat (Observer watch_2)) after kept words seats shift in (
           moved table lock found seat (looked lock found (Observer watch)),
           record { watch = watch; takes = (at, refl, done.event); writes = wrote; after = answered },
-          subst (λ (view : View). StandsFor rules (after_change seat step number rules.tells standing) key (moved table lock found seat view)) (sym view_is) stands,
+          subst (λ (view : View). StandsFor rules (after_change seat step which rules.tells standing) key (moved table lock found seat view)) (sym view_is) stands,
         )
 
     abbrev yes_step : Change
@@ -255,9 +256,9 @@ module _ (rules : RulesValue) (standing : StandingValue) (key : Parties) (table 
         by_test (Leads (IsLook seat lock)) (found == 1) yes_step busy_step
         (λ test. looks_so yes_step watch (watch_with watch (set watch.drained lock true)) at refl refl refl refl
         (ap (λ (b : Bool). Observer (watch_with watch (if b then set watch.drained lock true else watch.drained))) test)
-        (learned_drained key.locks own (after_step yes_step number rules.tells own) watch is lock few within (watch_with watch (set watch.drained lock true)) refl refl refl refl)
+        (learned_drained key.locks own (after_step yes_step which rules.tells own) watch is lock few within (watch_with watch (set watch.drained lock true)) refl refl refl refl)
         (sym (ap (λ (b : Bool). Told (Word (if b then reply.Yes else reply.Busy found))) test)))
         (λ test. looks_so busy_step watch (watch_with watch watch.drained) at refl refl refl refl
         (ap (λ (b : Bool). Observer (watch_with watch (if b then set watch.drained lock true else watch.drained))) test)
-        (learned_nothing key.locks own (after_step busy_step number rules.tells own) watch is lock few within (watch_with watch watch.drained) refl refl refl refl)
+        (learned_nothing key.locks own (after_step busy_step which rules.tells own) watch is lock few within (watch_with watch watch.drained) refl refl refl refl)
         (sym (ap (λ (b : Bool). Told (Word (if b then reply.Yes else reply.Busy found))) test)))

@@ -12,6 +12,7 @@ use Rattle.irp_remove.proofs.Observing.{blank_observer, blank_stake}
 use Rattle.irp_plain.specs.Lists.{with_item}
 use Rattle.irp_plain.specs.declared.parts.Change.{Change}
 use Rattle.irp_plain.specs.declared.parts.Given.{Given}
+use Rattle.irp_plain.specs.declared.parts.ActPlace.{ActPlace}
 use Rattle.irp_machine.specs.declared.parts.Planned.{Planned}
 use Rattle.irp_machine.specs.Machine.{RulesValue, StepsTo, act_of, seat_at, stepped}
 use Rattle.irp_machine.specs.Next.{next_of}
@@ -149,9 +150,9 @@ given_long None seats = refl
 given_long (Some given) seats = item_long given.seat (with_held given.held (get_or seats given.seat new_seat)) seats
 
 -- how many seats there are stays
-pub same_seats : (seat : ℕ) (step : Change) (number : ℕ) (tells : Bool) (old : StandingValue) → length (after_change seat step number tells old).seats ≡ length old.seats
-same_seats seat step number tells old =
-    let after : SeatValue = after_step step number tells (get_or old.seats seat new_seat) in
+pub same_seats : (seat : ℕ) (step : Change) (which : ActPlace) (tells : Bool) (old : StandingValue) → length (after_change seat step which tells old).seats ≡ length old.seats
+same_seats seat step which tells old =
+    let after : SeatValue = after_step step which tells (get_or old.seats seat new_seat) in
     given_long step.gives (with_item seat after old.seats) ∙ item_long seat after old.seats
 
 module _ (rules : RulesValue) (key : Parties) where
@@ -172,7 +173,7 @@ module _ (rules : RulesValue) (key : Parties) where
       let step : Change = steps.2.0 in
       let lead : middle ≡ stepped rules old seat planned (next_of old (seat_at old seat) planned) step steps.2.1 = same ∙ steps.2.2 in
       let done = lock_step_law rules old key table seat planned step lands stands is steps.2.1 in
-      let seats : length middle.seats ≡ length old.seats = ap (λ (s : StandingValue). length s.seats) lead ∙ same_seats seat step planned.step rules.tells old in
+      let seats : length middle.seats ≡ length old.seats = ap (λ (s : StandingValue). length s.seats) lead ∙ same_seats seat step planned.place rules.tells old in
       let rest = on done.0 (subst (λ (n : ℕ). HandsLand rules.acts n) (sym seats) lands) (subst (λ (s : StandingValue). StandsFor rules s key done.0) (sym lead) done.2) in
       (rest.0, (middle, done.0, record { planned = planned; step = step; act = is; next = steps.2.1; leads = lead; at = done.1 }, rest.1), rest.2)
 

@@ -1,6 +1,6 @@
 -- Each step at a cancel slot is one at the table that the machine stands for.
 use Rattle.std.proofs.Common.{◌≡◌, ℕ, ◌+◌, ◌*◌, ◌%◌, ◌<◌, Bool, true, false, not, ◌&&◌, ◌||◌, eq-eqb, ne_eqb, List, [], length, get_or, Some, None, if◌then◌else◌, refl, sym, ap, ◌∙◌, subst, arith}
-use Rattle.std.specs.Prelude.{slice_get, ◌==◌}
+use Rattle.std.specs.Prelude.{◌==◌}
 use Rattle.std.proofs.lemmas.Bool.{false≢true}
 use mathlib.Core.Option.{some}
 use lib.ListN.{get_elem?}
@@ -17,6 +17,8 @@ use Rattle.irp_slots.proofs.Steps.{publish_keeps, check_keeps, found_keeps}
 use Rattle.irp_slots.proofs.Lawful.{rest_law}
 use Rattle.irp_plain.specs.declared.parts.After.TheVariants.{In, Told}
 use Rattle.irp_plain.specs.declared.parts.Change.{Change}
+use Rattle.irp_plain.specs.declared.parts.ActPlace.{ActPlace}
+use Rattle.irp_machine.specs.Conditions.{act_now}
 use Rattle.irp_machine.specs.declared.parts.Planned.{Planned}
 use Rattle.irp_plain.specs.declared.parts.Slot.{Slot}
 use Rattle.irp_plain.specs.declared.parts.Stage.TheVariants as stages
@@ -67,7 +69,7 @@ odd_even : (n : ℕ) → n % 2 ≡ 1 → (n % 2 == 0) ≡ false
 odd_even n e = ne_eqb (n % 2) 0 (λ z. absurd (omega arith))
 
 module _ (rules : RulesValue) (standing : StandingValue) (key : Parties) (table : SlotTable) (r : StandsFor rules standing key table) (seat : ℕ) (below : seat < length standing.seats)
-    (number : ℕ) (k : ℕ) (inside : k < key.slots) where
+    (which : ActPlace) (k : ℕ) (inside : k < key.slots) where
   abbrev own : SeatValue
   own = get_or standing.seats seat new_seat
 
@@ -79,7 +81,7 @@ module _ (rules : RulesValue) (standing : StandingValue) (key : Parties) (table 
 
   -- what a step leads to
   abbrev pub Leads : (Change → SlotTable → SlotTable → Type 0) → Change → Type 0
-  Leads kind step = (new : SlotTable) × kind step table new × StandsFor rules (after_change seat step number rules.tells standing) key new
+  Leads kind step = (new : SlotTable) × kind step table new × StandsFor rules (after_change seat step which rules.tells standing) key new
 
   is : IsOwned table k slot (over_seats (puts k) rules.acts standing.seats) (over_seats (finds k) rules.acts standing.seats)
   is = r.owned k inside
@@ -106,7 +108,7 @@ module _ (rules : RulesValue) (standing : StandingValue) (key : Parties) (table 
   there = content_of table.words k
 
   -- ---- the use is swapped in
-  module _ (use_no : ℕ) (unused : slot.used ≡ false) (no_put : put acts own ≡ None) (no_found : found acts own ≡ None) (behind : put_at stages.Published (slice_get acts own.made) ≡ Some k) where
+  module _ (use_no : ℕ) (unused : slot.used ≡ false) (no_put : put acts own ≡ None) (no_found : found acts own ≡ None) (behind : put_at stages.Published (act_now acts own) ≡ Some k) where
     abbrev in_slot : Slot
     in_slot = record slot { content = use_no; used = true }
 
@@ -127,19 +129,19 @@ module _ (rules : RulesValue) (standing : StandingValue) (key : Parties) (table 
 
     pub swapped_in : Leads (IsPublish k) in_step
     swapped_in =
-        let after : SeatValue = after_step in_step number rules.tells own in
+        let after : SeatValue = after_step in_step which rules.tells own in
         let before_puts = none_at k (put acts own) no_put in
         let after_puts : puts k acts after ≡ 1 = one_at k (put acts after) behind in
         let before_finds = none_at k (found acts own) no_found in
-        let sum_puts = over_puts rules standing key table r seat below number in_step k in
-        let sum_finds = over_finds rules standing key table r seat below number in_step k in
+        let sum_puts = over_puts rules standing key table r seat below which in_step k in
+        let sum_finds = over_finds rules standing key table r seat below which in_step k in
         let none_puts : one_if (is_published o.stage && not o.found_set) ≡ 0 = ap (λ (s : OwnerStage). one_if (is_published s && not o.found_set)) idle in
         let none_finds : one_if (is_published o.stage && o.found_set) ≡ 0 = ap (λ (s : OwnerStage). one_if (is_published s && o.found_set)) idle in
         let puts_is = is.puts_is in
         let finds_is = is.finds_is in
-        let stands = owner_moves rules standing key table r seat below number in_step k inside (2 * k + 1) use_no in_slot o_in kept_in
+        let stands = owner_moves rules standing key table r seat below which in_step k inside (2 * k + 1) use_no in_slot o_in kept_in
         (record { flags_else = λ j ne. flag_same table.words k use_no j; contents_else = λ j ne. content_else table.words k use_no j ne })
-        (wrote rules standing key table r seat below number in_step k in_slot less refl)
+        (wrote rules standing key table r seat below which in_step k in_slot less refl)
         (record { puts_else = λ j ne. else_at k j (put acts after) behind ne ∙ sym (none_at j (put acts own) no_put); finds_else = λ j ne. sym (none_at j (found acts own) no_found) })
         is.own (ap (λ (w : ℕ). w % 2) (flag_same table.words k use_no k) ∙ is.flag_is) (content_here table.words k use_no content_room)
         refl (is.stands_is ∙ ap is_standing idle) (omega arith) (omega arith)
@@ -186,18 +188,18 @@ module _ (rules : RulesValue) (standing : StandingValue) (key : Parties) (table 
         let test : (word % 2 == 0) ≡ true = eq-eqb (word % 2) 0 even in
         let kept = subst (λ (n : ℕ). Kept key (moved table (2 * n) (flag_of table.words n) (owner_no k) (Owner o_clear))) is.own (check_keeps key table r.kept (owner_no k) o publishing.0 at inside_o even_o) in
         let view_is : owner_checked word (Owner o) ≡ Owner o_clear = ap (λ (b : Bool). Owner (owning_checked b o)) test in
-        let after : SeatValue = after_step clear_step number rules.tells own in
+        let after : SeatValue = after_step clear_step which rules.tells own in
         let before_puts = one_at k (put acts own) now in
         let before_finds = none_at k (found acts own) no_found in
-        let sum_puts = over_puts rules standing key table r seat below number clear_step k in
-        let sum_finds = over_finds rules standing key table r seat below number clear_step k in
+        let sum_puts = over_puts rules standing key table r seat below which clear_step k in
+        let sum_finds = over_finds rules standing key table r seat below which clear_step k in
         let one_puts : one_if (is_published o.stage && not o.found_set) ≡ 1 = λ i. one_if (is_published (publishing.0 i) && not (publishing.1 i)) in
         let none_finds : one_if (is_published o.stage && o.found_set) ≡ 0 = λ i. one_if (is_published (publishing.0 i) && publishing.1 i) in
         let puts_is = is.puts_is in
         let finds_is = is.finds_is in
-        let stands = owner_moves rules standing key table r seat below number clear_step k inside (2 * k) word clear_slot o_clear kept
+        let stands = owner_moves rules standing key table r seat below which clear_step k inside (2 * k) word clear_slot o_clear kept
         (record { flags_else = λ j ne. flag_else table.words k word j ne; contents_else = λ j ne. content_same table.words k word j })
-        (wrote rules standing key table r seat below number clear_step k clear_slot less refl)
+        (wrote rules standing key table r seat below which clear_step k clear_slot less refl)
         (record { puts_else = λ j ne. sym (else_at k j (put acts own) now ne); finds_else = λ j ne. sym (none_at j (found acts own) no_found) })
         is.own (ap (λ (w : ℕ). w % 2) (flag_here table.words k word flag_room) ∙ is.flag_is) (content_same table.words k word k ∙ is.content_is)
         (is.used_is ∙ ap is_begun publishing.0) refl (omega arith) (omega arith)
@@ -209,7 +211,7 @@ module _ (rules : RulesValue) (standing : StandingValue) (key : Parties) (table 
             takes = (at, refl, (key, table, owner_no k, r.kept, omega arith, at, refl, done));
             after = sym (ap (λ (b : Bool). if b then Told (Word reply.Standing) else In stages.FoundSet) test);
           },
-          subst (λ (view : View). StandsFor rules (after_change seat clear_step number rules.tells standing) key (moved table (2 * k) word (owner_no k) view)) (sym view_is) stands,
+          subst (λ (view : View). StandsFor rules (after_change seat clear_step which rules.tells standing) key (moved table (2 * k) word (owner_no k) view)) (sym view_is) stands,
         )
 
     abbrev set_step : Change
@@ -218,28 +220,28 @@ module _ (rules : RulesValue) (standing : StandingValue) (key : Parties) (table 
     abbrev o_set : Owning
     o_set = record o { found_set = true }
 
-    checks_set : found_at stages.FoundSet (slice_get acts own.made) ≡ Some k → slot.flag ≡ true → Leads (IsCheck k) set_step
+    checks_set : found_at stages.FoundSet (act_now acts own) ≡ Some k → slot.flag ≡ true → Leads (IsCheck k) set_step
     checks_set behind flagged =
         let odd : word % 2 ≡ 1 = (bit_of slot.flag word is.flag_is).0 flagged in
         let odd_o = subst (λ (n : ℕ). flag_of table.words n % 2 ≡ 1) (sym is.own) odd in
         let test : (word % 2 == 0) ≡ false = odd_even word odd in
         let kept = subst (λ (n : ℕ). Kept key (moved table (2 * n) (flag_of table.words n) (owner_no k) (Owner o_set))) is.own (found_keeps key table r.kept (owner_no k) o publishing.0 at odd_o) in
         let view_is : owner_checked word (Owner o) ≡ Owner o_set = ap (λ (b : Bool). Owner (owning_checked b o)) test in
-        let after : SeatValue = after_step set_step number rules.tells own in
+        let after : SeatValue = after_step set_step which rules.tells own in
         let before_puts = one_at k (put acts own) now in
         let before_finds = none_at k (found acts own) no_found in
         let after_finds : finds k acts after ≡ 1 = one_at k (found acts after) behind in
-        let sum_puts = over_puts rules standing key table r seat below number set_step k in
-        let sum_finds = over_finds rules standing key table r seat below number set_step k in
+        let sum_puts = over_puts rules standing key table r seat below which set_step k in
+        let sum_finds = over_finds rules standing key table r seat below which set_step k in
         let one_puts : one_if (is_published o.stage && not o.found_set) ≡ 1 = λ i. one_if (is_published (publishing.0 i) && not (publishing.1 i)) in
         let none_finds : one_if (is_published o.stage && o.found_set) ≡ 0 = λ i. one_if (is_published (publishing.0 i) && publishing.1 i) in
         let now_puts : one_if (is_published o.stage && false) ≡ 0 = ap (λ (s : OwnerStage). one_if (is_published s && false)) publishing.0 in
         let now_finds : one_if (is_published o.stage && true) ≡ 1 = ap (λ (s : OwnerStage). one_if (is_published s && true)) publishing.0 in
         let puts_is = is.puts_is in
         let finds_is = is.finds_is in
-        let stands = owner_moves rules standing key table r seat below number set_step k inside (2 * k) word slot o_set kept
+        let stands = owner_moves rules standing key table r seat below which set_step k inside (2 * k) word slot o_set kept
         (record { flags_else = λ j ne. flag_else table.words k word j ne; contents_else = λ j ne. content_same table.words k word j })
-        (wrote_none rules standing key table r seat below number set_step k refl)
+        (wrote_none rules standing key table r seat below which set_step k refl)
         (record { puts_else = λ j ne. sym (else_at k j (put acts own) now ne); finds_else = λ j ne. else_at k j (found acts after) behind ne ∙ sym (none_at j (found acts own) no_found) })
         is.own (ap (λ (w : ℕ). w % 2) (flag_here table.words k word flag_room) ∙ is.flag_is) (content_same table.words k word k ∙ is.content_is)
         is.used_is is.stands_is (omega arith) (omega arith)
@@ -251,8 +253,8 @@ module _ (rules : RulesValue) (standing : StandingValue) (key : Parties) (table 
             takes = (at, refl, (key, table, owner_no k, r.kept, omega arith, at, refl, done));
             after = sym (ap (λ (b : Bool). if b then Told (Word reply.Standing) else In stages.FoundSet) test);
           },
-          subst (λ (view : View). StandsFor rules (after_change seat set_step number rules.tells standing) key (moved table (2 * k) word (owner_no k) view)) (sym view_is) stands,
+          subst (λ (view : View). StandsFor rules (after_change seat set_step which rules.tells standing) key (moved table (2 * k) word (owner_no k) view)) (sym view_is) stands,
         )
 
-    pub checks : found_at stages.FoundSet (slice_get acts own.made) ≡ Some k → Leads (IsCheck k) (change.check k slot)
+    pub checks : found_at stages.FoundSet (act_now acts own) ≡ Some k → Leads (IsCheck k) (change.check k slot)
     checks behind = by_test (Leads (IsCheck k)) slot.flag set_step clear_step (checks_set behind) checks_clear

@@ -12,6 +12,7 @@ use Rattle.irp_script_reader.specs.declared.act.StepAct.TheVariants as does
 use Rattle.irp_slots.specs.declared.views.Parties.{Parties}
 use Rattle.irp_plain.specs.declared.parts.After.TheVariants.{In}
 use Rattle.irp_plain.specs.declared.parts.Change.{Change}
+use Rattle.irp_machine.specs.Conditions.{act_now}
 use Rattle.irp_machine.specs.declared.parts.Next.TheVariants.{Changes}
 use Rattle.irp_machine.specs.declared.parts.Planned.{Planned}
 use Rattle.irp_plain.specs.declared.parts.Slot.{Slot}
@@ -56,7 +57,7 @@ else_found stages.FoundSet act planned is none = ap (option_and_then (λ (planne
 else_found other act planned is none = refl
 
 module _ (rules : RulesValue) (standing : StandingValue) (key : Parties) (table : SlotTable) (r : StandsFor rules standing key table) (seat : ℕ) (below : seat < length standing.seats)
-    (planned : Planned) (planned_is : slice_get (get_or rules.acts seat []) (get_or standing.seats seat new_seat).made ≡ Some planned) where
+    (planned : Planned) (planned_is : act_now (get_or rules.acts seat []) (get_or standing.seats seat new_seat) ≡ Some planned) where
   abbrev own : SeatValue
   own = get_or standing.seats seat new_seat
 
@@ -64,18 +65,18 @@ module _ (rules : RulesValue) (standing : StandingValue) (key : Parties) (table 
   acts = get_or rules.acts seat []
 
   abbrev pub Leads : (Change → SlotTable → SlotTable → Type 0) → Change → Type 0
-  Leads kind step = (new : SlotTable) × kind step table new × StandsFor rules (after_change seat step planned.step rules.tells standing) key new
+  Leads kind step = (new : SlotTable) × kind step table new × StandsFor rules (after_change seat step planned.place rules.tells standing) key new
 
   -- a step that leaves the slots leaves the table
   stays : (step : Change) → LeavesSlots step → put acts own ≡ None → found acts own ≡ None → Leads Stays step
   stays step leaves no_put no_found =
-      let after : SeatValue = after_step step planned.step rules.tells own in
-      let put_none : put acts after ≡ None = quiet_put after.stage (slice_get acts after.made) (leaves.1 own.made) in
-      let found_none : found acts after ≡ None = quiet_found after.stage (slice_get acts after.made) (leaves.1 own.made) in
-      let asked_none : asked acts after ≡ None = quiet_asked after.stage (slice_get acts after.made) (leaves.1 own.made) in (
+      let after : SeatValue = after_step step planned.place rules.tells own in
+      let put_none : put acts after ≡ None = quiet_put after.stage (act_now acts after) leaves.1 in
+      let found_none : found acts after ≡ None = quiet_found after.stage (act_now acts after) leaves.1 in
+      let asked_none : asked acts after ≡ None = quiet_asked after.stage (act_now acts after) leaves.1 in (
         table,
         (leaves.0, refl),
-        nothing_moves rules standing key table r seat below planned.step step leaves.0
+        nothing_moves rules standing key table r seat below planned.place step leaves.0
             (λ j. none_at j (put acts after) put_none ∙ sym (none_at j (put acts own) no_put)) (λ j. none_at j (found acts after) found_none ∙ sym (none_at j (found acts own) no_found))
             (asks_less key.slots acts own after _ asked_none (λ j e. absurd (let bad : ⊥ = cc in bad)) (λ j e. absurd (let bad : ⊥ = cc in bad)) (r.askers seat below)),
       )
@@ -85,7 +86,7 @@ module _ (rules : RulesValue) (standing : StandingValue) (key : Parties) (table 
 
   refused : (kind : Change → SlotTable → SlotTable → Type 0) (answer : WordReply) → is_refusal answer ≡ true → put acts own ≡ None → found acts own ≡ None → Leads (Or kind) (change.told answer)
   refused kind answer plain no_put no_found =
-      let done = stays (change.told answer) (refl, λ made. refl) no_put no_found in (done.0, inl (answer, plain, refl, done.1), done.2)
+      let done = stays (change.told answer) (refl, refl) no_put no_found in (done.0, inl (answer, plain, refl, done.1), done.2)
 
   goes : (kind : Change → SlotTable → SlotTable → Type 0) (step : Change) → Leads kind step → Leads (Or kind) step
   goes kind step done = (done.0, inr done.1, done.2)
@@ -102,7 +103,7 @@ module _ (rules : RulesValue) (standing : StandingValue) (key : Parties) (table 
 
   -- ---- a publication
   module _ (number : ℕ) (irp : Named) (act_is : planned.act ≡ does.Publish number irp) where
-    published_now : option_and_then (λ (planned : Planned). published_by planned.act) (slice_get acts own.made) ≡ Some number
+    published_now : option_and_then (λ (planned : Planned). published_by planned.act) (act_now acts own) ≡ Some number
     published_now = ap (option_and_then (λ (planned : Planned). published_by planned.act)) planned_is ∙ ap published_by act_is
 
     abbrev May : Change → SlotTable → SlotTable → Type 0
@@ -120,16 +121,16 @@ module _ (rules : RulesValue) (standing : StandingValue) (key : Parties) (table 
         subst (Leads May) (sym (plain slot))
         (subst (λ (slot : Slot). Leads May (change.swap_in number slot use_no)) (slot_is number slot there)
         (by_test (Leads May) (slot_at standing number).used _ _
-        (λ used. stays_or (change.told reply.Used) (refl, λ made. refl) no_put no_found)
-        (λ unused. let done = swapped_in rules standing key table r seat below planned.step number (inside_of number slot there) use_no unused no_put no_found published_now in (done.0, inr done.1, done.2)))))
-        (λ none. stays_or (change.told reply.NoSlot) (refl, λ made. refl) no_put no_found)
+        (λ used. stays_or (change.told reply.Used) (refl, refl) no_put no_found)
+        (λ unused. let done = swapped_in rules standing key table r seat below planned.place number (inside_of number slot there) use_no unused no_put no_found published_now in (done.0, inr done.1, done.2)))))
+        (λ none. stays_or (change.told reply.NoSlot) (refl, refl) no_put no_found)
 
     checking : (use_no : ℕ) → own.stage ≡ stages.Published → Leads (IsCheck number) (change.publish standing.slots number own.stage use_no)
     checking use_no at =
-        let now : put acts own ≡ Some number = ap (λ stage. put_at stage (slice_get acts own.made)) at ∙ published_now in
-        let no_found : found acts own ≡ None = ap (λ stage. found_at stage (slice_get acts own.made)) at in
+        let now : put acts own ≡ Some number = ap (λ stage. put_at stage (act_now acts own)) at ∙ published_now in
+        let no_found : found acts own ≡ None = ap (λ stage. found_at stage (act_now acts own)) at in
         let inside = (r.askers seat below).put_inside number now in
-        let done = checks rules standing key table r seat below planned.step number inside now no_found published_now in
+        let done = checks rules standing key table r seat below planned.place number inside now no_found published_now in
         let is : change.publish standing.slots number own.stage use_no ≡ change.check number (slot_at standing number) =
         ap (λ (o : Option Slot). option_map_or (λ (slot : Slot). change.publishing number slot own.stage use_no) o (change.told reply.NoSlot)) (there_is number inside)
         ∙ ap (λ stage. change.publishing number (slot_at standing number) stage use_no) at in
@@ -137,10 +138,10 @@ module _ (rules : RulesValue) (standing : StandingValue) (key : Parties) (table 
 
     losing : (use_no : ℕ) → own.stage ≡ stages.FoundSet → Leads (IsTakeBack number) (change.publish standing.slots number own.stage use_no)
     losing use_no at =
-        let no_put : put acts own ≡ None = ap (λ stage. put_at stage (slice_get acts own.made)) at in
-        let now : found acts own ≡ Some number = ap (λ stage. found_at stage (slice_get acts own.made)) at ∙ published_now in
+        let no_put : put acts own ≡ None = ap (λ stage. put_at stage (act_now acts own)) at in
+        let now : found acts own ≡ Some number = ap (λ stage. found_at stage (act_now acts own)) at ∙ published_now in
         let inside = (r.askers seat below).found_inside number now in
-        let done = loses rules standing key table r seat below planned.step number inside no_put now in
+        let done = loses rules standing key table r seat below planned.place number inside no_put now in
         let is : change.publish standing.slots number own.stage use_no ≡ change.take_out number (slot_at standing number) reply.Lost =
         ap (λ (o : Option Slot). option_map_or (λ (slot : Slot). change.publishing number slot own.stage use_no) o (change.told reply.NoSlot)) (there_is number inside)
         ∙ ap (λ stage. change.publishing number (slot_at standing number) stage use_no) at in
@@ -156,11 +157,11 @@ module _ (rules : RulesValue) (standing : StandingValue) (key : Parties) (table 
         subst (Leads kind) (sym is) done
 
     swap_at : (named : IrpRef) (away : is_at_slot own.stage ≡ false) → ((slot : Slot) → change.publishing number slot own.stage named.use_no ≡ change.swap_in number slot named.use_no) → Packet May named
-    swap_at named away plain = packet May named (swap named.use_no (quiet_put own.stage (slice_get acts own.made) away) (quiet_found own.stage (slice_get acts own.made) away) plain)
+    swap_at named away plain = packet May named (swap named.use_no (quiet_put own.stage (act_now acts own) away) (quiet_found own.stage (act_now acts own) away) plain)
 
     reading : (alone : Bool) (named : IrpRef) → is_at_slot own.stage ≡ false → Packet May named → (step : Change)
         → IsNext rules standing seat planned (if alone then Changes (change.only (In (stages.Read named))) else with_packet standing own planned.act named) step → Leads May step
-    reading true named away go step next = stays_or step (left rules standing seat planned _ (refl, λ made. refl) step next) (quiet_put own.stage (slice_get acts own.made) away) (quiet_found own.stage (slice_get acts own.made) away)
+    reading true named away go step next = stays_or step (left rules standing seat planned _ (refl, refl) step next) (quiet_put own.stage (act_now acts own) away) (quiet_found own.stage (act_now acts own) away)
     reading false named away go step next = go step next
 
     abbrev named_now : IrpRef
@@ -168,7 +169,7 @@ module _ (rules : RulesValue) (standing : StandingValue) (key : Parties) (table 
 
     naming : (stage : Stage) → own.stage ≡ stage → (step : Change) → IsNext rules standing seat planned (naming_at stage standing own planned) step → Leads (Publishes number stage) step
     naming (stages.Answered named) at step next =
-        stays_or step (left rules standing seat planned _ (refl, λ made. refl) step next) (quiet_put own.stage (slice_get acts own.made) (ap is_at_slot at)) (quiet_found own.stage (slice_get acts own.made) (ap is_at_slot at))
+        stays_or step (left rules standing seat planned _ (refl, refl) step next) (quiet_put own.stage (act_now acts own) (ap is_at_slot at)) (quiet_found own.stage (act_now acts own) (ap is_at_slot at))
     naming (stages.Read named) at step next = swap_at named (ap is_at_slot at) (λ slot. ap (λ stage. change.publishing number slot stage named.use_no) at) step next
     naming stages.Between at step next =
         reading planned.reads_alone named_now (ap is_at_slot at) (swap_at named_now (ap is_at_slot at) (λ slot. ap (λ stage. change.publishing number slot stage named_now.use_no) at)) step next
@@ -178,7 +179,7 @@ module _ (rules : RulesValue) (standing : StandingValue) (key : Parties) (table 
     naming stages.Begun at step next = swap_at named_now (ap is_at_slot at) (λ slot. ap (λ stage. change.publishing number slot stage named_now.use_no) at) step next
     naming stages.Flagged at step next =
         packet May named_now
-        (swap named_now.use_no (ap (λ stage. put_at stage (slice_get acts own.made)) at) (ap (λ stage. found_at stage (slice_get acts own.made)) at) (λ slot. ap (λ stage. change.publishing number slot stage named_now.use_no) at)) step next
+        (swap named_now.use_no (ap (λ stage. put_at stage (act_now acts own)) at) (ap (λ stage. found_at stage (act_now acts own)) at) (λ slot. ap (λ stage. change.publishing number slot stage named_now.use_no) at)) step next
 
     pub publishes : (step : Change) → IsNext rules standing seat planned (next_by (does.Publish number irp) standing own planned) step → Leads (Publishes number own.stage) step
     publishes step next =
@@ -188,10 +189,10 @@ module _ (rules : RulesValue) (standing : StandingValue) (key : Parties) (table 
   -- ---- a withdrawal and a request
   module _ (other : published_by planned.act ≡ None) where
     no_put : put acts own ≡ None
-    no_put = else_put own.stage (slice_get acts own.made) planned planned_is other
+    no_put = else_put own.stage (act_now acts own) planned planned_is other
 
     no_found : found acts own ≡ None
-    no_found = else_found own.stage (slice_get acts own.made) planned planned_is other
+    no_found = else_found own.stage (act_now acts own) planned planned_is other
 
     pub leaves_slots : (step : Change) → LeavesSlots step → Leads Stays step
     leaves_slots step leaves = stays step leaves no_put no_found
@@ -203,12 +204,12 @@ module _ (rules : RulesValue) (standing : StandingValue) (key : Parties) (table 
         (λ slot there.
         subst (λ (slot : Slot). Leads (Or (IsTakeBack number)) (if slot.stands then change.take_out number (record slot { stands = false }) reply.Lost else change.told reply.NotStanding)) (slot_is number slot there)
         (by_test (Leads (Or (IsTakeBack number))) (slot_at standing number).stands _ _
-        (λ stood. goes (IsTakeBack number) _ (withdraws rules standing key table r seat below planned.step number (inside_of number slot there) no_put no_found stood))
+        (λ stood. goes (IsTakeBack number) _ (withdraws rules standing key table r seat below planned.place number (inside_of number slot there) no_put no_found stood))
         (λ down. refused (IsTakeBack number) reply.NotStanding refl no_put no_found)))
         (λ none. refused (IsTakeBack number) reply.NotStanding refl no_put no_found)
 
     module _ (number : ℕ) (act_is : planned.act ≡ does.Request number) where
-      requested_now : option_and_then (λ (planned : Planned). requested_by planned.act) (slice_get acts own.made) ≡ Some number
+      requested_now : option_and_then (λ (planned : Planned). requested_by planned.act) (act_now acts own) ≡ Some number
       requested_now = ap (option_and_then (λ (planned : Planned). requested_by planned.act)) planned_is ∙ ap requested_by act_is
 
       abbrev Flags : Change → SlotTable → SlotTable → Type 0
@@ -220,14 +221,14 @@ module _ (rules : RulesValue) (standing : StandingValue) (key : Parties) (table 
           (λ slot there.
           subst (Leads Flags) (sym (plain slot))
           (subst (λ (slot : Slot). Leads Flags (change.requesting number slot stages.Between)) (slot_is number slot there)
-          (goes (IsFlag (asker_no key.slots seat) number) _ (flags_it rules standing key table r seat below planned.step number (inside_of number slot there) no_put no_found requested_now))))
+          (goes (IsFlag (asker_no key.slots seat) number) _ (flags_it rules standing key table r seat below planned.place number (inside_of number slot there) no_put no_found requested_now))))
           (λ none. refused (IsFlag (asker_no key.slots seat) number) reply.NoSlot refl no_put no_found)
 
       requests : (stage : Stage) → own.stage ≡ stage → Leads (Requests (asker_no key.slots seat) number stage) (change.request standing.slots number own.stage)
       requests stages.Flagged at =
-          let now : asked acts own ≡ Some number = ap (λ stage. asked_at stage (slice_get acts own.made)) at ∙ requested_now in
+          let now : asked acts own ≡ Some number = ap (λ stage. asked_at stage (act_now acts own)) at ∙ requested_now in
           let inside = ((r.askers seat below).has_flagged number now).0 in
-          let done = takes_out rules standing key table r seat below planned.step number inside no_put no_found now in
+          let done = takes_out rules standing key table r seat below planned.place number inside no_put no_found now in
           let is : change.request standing.slots number own.stage ≡ change.take_out number (slot_at standing number) reply.Nothing =
           ap (λ (o : Option Slot). option_map_or (λ (slot : Slot). change.requesting number slot own.stage) o (change.told reply.NoSlot)) (there_is number inside)
           ∙ ap (λ stage. change.requesting number (slot_at standing number) stage) at in

@@ -1,10 +1,10 @@
 -- The laws of slots.
 use Rattle.std.proofs.Common.{◌≡◌, ℕ, ◌<◌, [], length, get_or, Some, refl, sym, ap, subst}
-use Rattle.std.specs.Prelude.{slice_get}
 use Rattle.irp_script_reader.specs.declared.act.StepAct.{StepAct}
 use Rattle.irp_script_reader.specs.declared.act.StepAct.TheVariants as does
 use Rattle.irp_slots.specs.declared.views.Parties.{Parties}
 use Rattle.irp_plain.specs.declared.parts.Change.{Change}
+use Rattle.irp_machine.specs.Conditions.{act_now}
 use Rattle.irp_machine.specs.declared.parts.Planned.{Planned}
 use Rattle.irp_plain.specs.Changes as change
 use Rattle.irp_machine.specs.Machine.{RulesValue, IsNext, seat_at, manager_behind}
@@ -21,7 +21,7 @@ use Rattle.irp_machine_laws.proofs.SlotLeaves.{LeavesSlots, NextIs, call_next, h
 -- ---- each step
 
 module _ (rules : RulesValue) (standing : StandingValue) (key : Parties) (table : SlotTable) (r : StandsFor rules standing key table) (seat : ℕ) (below : seat < length standing.seats)
-    (planned : Planned) (planned_is : slice_get (get_or rules.acts seat []) (get_or standing.seats seat new_seat).made ≡ Some planned) where
+    (planned : Planned) (planned_is : act_now (get_or rules.acts seat []) (get_or standing.seats seat new_seat) ≡ Some planned) where
   abbrev own : SeatValue
   own = get_or standing.seats seat new_seat
 
@@ -65,4 +65,4 @@ slot_step_law rules standing key table seat planned step r is next =
     let found = act_found rules.acts standing.seats seat planned is in
     let done = by_act rules standing key table r seat found.0 planned found.1 planned.act refl step next in
     let manager = manager_behind rules standing seat planned (next_of standing (seat_at standing seat) planned) step next in
-    (done.0, done.1, beside rules (after_change seat step planned.step rules.tells standing) key done.0 manager done.2)
+    (done.0, done.1, beside rules (after_change seat step planned.place rules.tells standing) key done.0 manager done.2)

@@ -13,6 +13,7 @@ use Rattle.irp_slots.specs.declared.views.Parties.{Parties}
 use Rattle.irp_slots.specs.Core.{Kept, content_of, flag_of, is_begun, is_standing, owns, published, one_if as as_one}
 use Rattle.irp_slots.proofs.Totals.{alone, published_view}
 use Rattle.irp_plain.specs.declared.parts.Change.{Change}
+use Rattle.irp_plain.specs.declared.parts.ActPlace.{ActPlace}
 use Rattle.irp_machine.specs.declared.parts.Planned.{Planned}
 use Rattle.irp_plain.specs.declared.parts.Slot.{Slot}
 use Rattle.irp_machine.specs.Machine.{RulesValue}
@@ -86,7 +87,7 @@ own_found key s r id o at inside =
     nothing false b = refl
 
 module _ (rules : RulesValue) (standing : StandingValue) (key : Parties) (table : SlotTable) (r : StandsFor rules standing key table) (seat : ℕ) (below : seat < length standing.seats)
-    (number : ℕ) (step : Change) where
+    (which : ActPlace) (step : Change) where
   abbrev own : SeatValue
   own = get_or standing.seats seat new_seat
 
@@ -94,10 +95,10 @@ module _ (rules : RulesValue) (standing : StandingValue) (key : Parties) (table 
   acts = get_or rules.acts seat []
 
   abbrev after : SeatValue
-  after = after_step step number rules.tells own
+  after = after_step step which rules.tells own
 
   abbrev new : StandingValue
-  new = after_change seat step number rules.tells standing
+  new = after_change seat step which rules.tells standing
 
   -- what a step at one slot makes of the slots
   pub record Wrote (k : ℕ) (slot : Slot) : Type 0 where
@@ -145,7 +146,7 @@ module _ (rules : RulesValue) (standing : StandingValue) (key : Parties) (table 
       let is = r.owned k less in
       let away : (other : ℕ) → get_elem? (set table.views (owner_no k) (Owner o)) (asker_no key.slots other) ≡ get_elem? table.views (asker_no key.slots other) =
       λ other. set_else table.views (owner_no k) (asker_no key.slots other) (Owner o) (λ e. absurd (omega arith)) in
-      shifted rules standing key table r seat below number step (moved table word left (owner_no k) (Owner o)) kept r.homes writes.slots_long
+      shifted rules standing key table r seat below which step (moved table word left (owner_no k) (Owner o)) kept r.homes writes.slots_long
       (λ j inside. dite (ℕ_discrete j k)
       (λ e. subst (λ (j : ℕ). IsOwned (moved table word left (owner_no k) (Owner o)) j (slot_at new j) (over_seats (puts j) rules.acts new.seats) (over_seats (finds j) rules.acts new.seats)) (sym e)
       (subst (λ (s : Slot). IsOwned (moved table word left (owner_no k) (Owner o)) k s (over_seats (puts k) rules.acts new.seats) (over_seats (finds k) rules.acts new.seats)) (sym writes.slot_here)
@@ -160,7 +161,7 @@ module _ (rules : RulesValue) (standing : StandingValue) (key : Parties) (table 
         puts_is = puts_is;
         finds_is = finds_is;
       })))
-      (λ ne. owned_still rules standing key table r seat below number step (moved table word left (owner_no k) (Owner o)) j inside (differs.flags_else j ne) (differs.contents_else j ne)
+      (λ ne. owned_still rules standing key table r seat below which step (moved table word left (owner_no k) (Owner o)) j inside (differs.flags_else j ne) (differs.contents_else j ne)
       (set_else table.views (owner_no k) (owner_no j) (Owner o) (λ e. ne (omega arith))) (writes.slots_else j ne) (turns.puts_else j ne) (turns.finds_else j ne)))
       (subst (λ (v : Found View). IsAsking key.slots acts after v) (sym (away seat)) asks)
       (λ other ne. away other)
@@ -178,7 +179,7 @@ module _ (rules : RulesValue) (standing : StandingValue) (key : Parties) (table 
       set_here table.views (asker_no key.slots seat) (Canceller a) (there_below table.views (asker_no key.slots seat) (Canceller before.asking) before.at) in
       let away : (j : ℕ) → j < key.slots → get_elem? (set table.views (asker_no key.slots seat) (Canceller a)) (owner_no j) ≡ get_elem? table.views (owner_no j) =
       λ j inside. set_else table.views (asker_no key.slots seat) (owner_no j) (Canceller a) (λ e. absurd (omega arith)) in
-      shifted rules standing key table r seat below number step (moved table word left (asker_no key.slots seat) (Canceller a)) kept r.homes writes.slots_long
+      shifted rules standing key table r seat below which step (moved table word left (asker_no key.slots seat) (Canceller a)) kept r.homes writes.slots_long
       (λ j inside. dite (ℕ_discrete j k)
       (λ e. subst (λ (j : ℕ). IsOwned (moved table word left (asker_no key.slots seat) (Canceller a)) j (slot_at new j) (over_seats (puts j) rules.acts new.seats) (over_seats (finds j) rules.acts new.seats)) (sym e)
       (subst (λ (s : Slot). IsOwned (moved table word left (asker_no key.slots seat) (Canceller a)) k s (over_seats (puts k) rules.acts new.seats) (over_seats (finds k) rules.acts new.seats)) (sym writes.slot_here)
@@ -190,12 +191,12 @@ module _ (rules : RulesValue) (standing : StandingValue) (key : Parties) (table 
         content_is = content_is;
         used_is = used_is ∙ is.used_is;
         stands_is = stands_is ∙ is.stands_is;
-        puts_is = let p = puts_same k in let q = over_puts rules standing key table r seat below number step k in
+        puts_is = let p = puts_same k in let q = over_puts rules standing key table r seat below which step k in
             let same : over_seats (puts k) rules.acts new.seats ≡ over_seats (puts k) rules.acts standing.seats = omega arith in same ∙ is.puts_is;
-        finds_is = let p = finds_same k in let q = over_finds rules standing key table r seat below number step k in
+        finds_is = let p = finds_same k in let q = over_finds rules standing key table r seat below which step k in
             let same : over_seats (finds k) rules.acts new.seats ≡ over_seats (finds k) rules.acts standing.seats = omega arith in same ∙ is.finds_is;
       })))
-      (λ ne. owned_still rules standing key table r seat below number step (moved table word left (asker_no key.slots seat) (Canceller a)) j inside (differs.flags_else j ne) (differs.contents_else j ne)
+      (λ ne. owned_still rules standing key table r seat below which step (moved table word left (asker_no key.slots seat) (Canceller a)) j inside (differs.flags_else j ne) (differs.contents_else j ne)
       (away j inside) (writes.slots_else j ne) (puts_same j) (finds_same j)))
       (subst (λ (v : Found View). IsAsking key.slots acts after v) (sym here) asks)
       (λ other ne. set_else table.views (asker_no key.slots seat) (asker_no key.slots other) (Canceller a) (λ e. ne (omega arith)))
@@ -205,6 +206,6 @@ module _ (rules : RulesValue) (standing : StandingValue) (key : Parties) (table 
       → IsAsking key.slots acts after (get_elem? table.views (asker_no key.slots seat)) → StandsFor rules new key table
   nothing_moves none puts_same finds_same asks =
       let slots : new.slots ≡ standing.slots = λ i. with_slot (none i) standing.slots in
-      shifted rules standing key table r seat below number step table r.kept r.homes (ap length slots)
-      (λ j inside. owned_still rules standing key table r seat below number step table j inside refl refl refl (ap (λ (s : List Slot). get_or s j empty_slot) slots) (puts_same j) (finds_same j))
+      shifted rules standing key table r seat below which step table r.kept r.homes (ap length slots)
+      (λ j inside. owned_still rules standing key table r seat below which step table j inside refl refl refl (ap (λ (s : List Slot). get_or s j empty_slot) slots) (puts_same j) (finds_same j))
       asks (λ other ne. refl)

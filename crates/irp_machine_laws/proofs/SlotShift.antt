@@ -1,6 +1,6 @@
 -- Where one seat and the table of slots change together, the table stands for the machine still.
 use Rattle.std.proofs.Common.{◌≡◌, ◌≢◌, ℕ, ◌+◌, ◌%◌, ◌<◌, Bool, true, false, eq-eqb, ne_eqb, List, [], length, get_or, set, Option, Some, None, if◌then◌else◌, refl, sym, ap, ◌∙◌, subst, arith, length-set, get_or-set_same, get_or-set_other}
-use Rattle.std.specs.Prelude.{slice_get, nat_lt}
+use Rattle.std.specs.Prelude.{nat_lt}
 use Rattle.std.proofs.lemmas.Bool.{ltb-true}
 use mathlib.Core.Logic.{dite}
 use mathlib.Core.Option.{Option as Found}
@@ -12,6 +12,8 @@ use Rattle.irp_slots.specs.Core.{Kept, content_of, flag_of}
 use Rattle.irp_plain.specs.declared.parts.Change.{Change}
 use Rattle.irp_plain.specs.declared.parts.Held.{Held}
 use Rattle.irp_plain.specs.declared.parts.Given.{Given}
+use Rattle.irp_plain.specs.declared.parts.ActPlace.{ActPlace}
+use Rattle.irp_machine.specs.Conditions.{act_now}
 use Rattle.irp_machine.specs.declared.parts.Planned.{Planned}
 use Rattle.irp_plain.specs.declared.parts.Slot.{Slot}
 use Rattle.irp_machine.specs.Machine.{RulesValue, seat_at}
@@ -51,24 +53,24 @@ over_given f same acts (Some given) seats = pick (nat_lt given.seat (length seat
 
 -- a seat that is given a reference is where it was
 given_place : (given : Option Given) (seats : List SeatValue) (other : ℕ)
-    → ((get_or (with_given given seats) other new_seat).stage ≡ (get_or seats other new_seat).stage) × ((get_or (with_given given seats) other new_seat).made ≡ (get_or seats other new_seat).made)
-given_place None seats other = (refl, refl)
+    → ((get_or (with_given given seats) other new_seat).stage ≡ (get_or seats other new_seat).stage) × ((acts : List Planned) → act_now acts (get_or (with_given given seats) other new_seat) ≡ act_now acts (get_or seats other new_seat))
+given_place None seats other = (refl, λ acts. refl)
 given_place (Some given) seats other = pick (nat_lt given.seat (length seats)) refl
   where
     taker : SeatValue
     taker = with_held given.held (get_or seats given.seat new_seat)
 
     pick : (test : Bool) → nat_lt given.seat (length seats) ≡ test
-        → ((get_or (if test then set seats given.seat taker else seats) other new_seat).stage ≡ (get_or seats other new_seat).stage) × ((get_or (if test then set seats given.seat taker else seats) other new_seat).made ≡ (get_or seats other new_seat).made)
+        → ((get_or (if test then set seats given.seat taker else seats) other new_seat).stage ≡ (get_or seats other new_seat).stage) × ((acts : List Planned) → act_now acts (get_or (if test then set seats given.seat taker else seats) other new_seat) ≡ act_now acts (get_or seats other new_seat))
     pick true e = dite (ℕ_discrete other given.seat)
         (λ same.
         let now : get_or (set seats given.seat taker) other new_seat ≡ taker = ap (λ (k : ℕ). get_or (set seats given.seat taker) k new_seat) same ∙ get_or-set_same seats given.seat taker new_seat (ltb-true given.seat (length seats) e) in
         let before : get_or seats given.seat new_seat ≡ get_or seats other new_seat = ap (λ (k : ℕ). get_or seats k new_seat) (sym same) in
-        (ap (λ (s : SeatValue). s.stage) now ∙ ap (λ (s : SeatValue). s.stage) before, ap (λ (s : SeatValue). s.made) now ∙ ap (λ (s : SeatValue). s.made) before))
+        (ap (λ (s : SeatValue). s.stage) now ∙ ap (λ (s : SeatValue). s.stage) before, λ acts. ap (act_now acts) now ∙ ap (act_now acts) before))
         (λ ne.
         let now = get_or-set_other seats given.seat other taker new_seat ne in
-        (ap (λ (s : SeatValue). s.stage) now, ap (λ (s : SeatValue). s.made) now))
-    pick false e = (refl, refl)
+        (ap (λ (s : SeatValue). s.stage) now, λ acts. ap (act_now acts) now))
+    pick false e = (refl, λ acts. refl)
 
 given_long : (given : Option Given) (seats : List SeatValue) → length (with_given given seats) ≡ length seats
 given_long None seats = refl
@@ -82,16 +84,16 @@ given_long (Some given) seats = pick (nat_lt given.seat (length seats))
     pick false = refl
 
 -- a seat at the same place asks the same
-pub same_asking : (slots : ℕ) (acts : List Planned) (one other : SeatValue) (view : Found View) → other.stage ≡ one.stage → other.made ≡ one.made → IsAsking slots acts one view → IsAsking slots acts other view
-same_asking slots acts one other view stage made is =
+pub same_asking : (slots : ℕ) (acts : List Planned) (one other : SeatValue) (view : Found View) → other.stage ≡ one.stage → act_now acts other ≡ act_now acts one → IsAsking slots acts one view → IsAsking slots acts other view
+same_asking slots acts one other view stage now is =
     record {
       asking = is.asking;
       at = is.at;
       flagged_long = is.flagged_long;
       ended_long = is.ended_long;
-      has_flagged = λ number e. is.has_flagged number ((λ i. asked_at (sym stage i) (slice_get acts (sym made i))) ∙ e);
-      put_inside = λ number e. is.put_inside number ((λ i. put_at (sym stage i) (slice_get acts (sym made i))) ∙ e);
-      found_inside = λ number e. is.found_inside number ((λ i. found_at (sym stage i) (slice_get acts (sym made i))) ∙ e);
+      has_flagged = λ number e. is.has_flagged number ((λ i. asked_at (sym stage i) (sym now i)) ∙ e);
+      put_inside = λ number e. is.put_inside number ((λ i. put_at (sym stage i) (sym now i)) ∙ e);
+      found_inside = λ number e. is.found_inside number ((λ i. found_at (sym stage i) (sym now i)) ∙ e);
     }
 
 -- a slot
@@ -99,7 +101,7 @@ abbrev pub slot_at : StandingValue → ℕ → Slot
 slot_at standing k = get_or standing.slots k empty_slot
 
 module _ (rules : RulesValue) (standing : StandingValue) (key : Parties) (table : SlotTable) (r : StandsFor rules standing key table) (seat : ℕ) (below : seat < length standing.seats)
-    (number : ℕ) (step : Change) where
+    (which : ActPlace) (step : Change) where
   abbrev own : SeatValue
   own = get_or standing.seats seat new_seat
 
@@ -107,10 +109,10 @@ module _ (rules : RulesValue) (standing : StandingValue) (key : Parties) (table 
   acts = get_or rules.acts seat []
 
   abbrev after : SeatValue
-  after = after_step step number rules.tells own
+  after = after_step step which rules.tells own
 
   abbrev new : StandingValue
-  new = after_change seat step number rules.tells standing
+  new = after_change seat step which rules.tells standing
 
   seats_are : new.seats ≡ with_given step.gives (set standing.seats seat after)
   seats_are = ap (with_given step.gives) (item_set seat after standing.seats below)
@@ -160,15 +162,16 @@ module _ (rules : RulesValue) (standing : StandingValue) (key : Parties) (table 
         askers = λ other less.
             let place = given_place step.gives (set standing.seats seat after) other in
             let stage : (seat_at new other).stage ≡ (get_or (set standing.seats seat after) other new_seat).stage = ap (λ (s : List SeatValue). (get_or s other new_seat).stage) seats_are ∙ place.0 in
-            let made : (seat_at new other).made ≡ (get_or (set standing.seats seat after) other new_seat).made = ap (λ (s : List SeatValue). (get_or s other new_seat).made) seats_are ∙ place.1 in
+            let acts_now : (acts : List Planned) → act_now acts (seat_at new other) ≡ act_now acts (get_or (set standing.seats seat after) other new_seat) =
+            λ acts. ap (λ (s : List SeatValue). act_now acts (get_or s other new_seat)) seats_are ∙ place.1 acts in
             dite (ℕ_discrete other seat)
             (λ e.
             let now : get_or (set standing.seats seat after) other new_seat ≡ after = ap (λ (k : ℕ). get_or (set standing.seats seat after) k new_seat) e ∙ get_or-set_same standing.seats seat after new_seat below in
-            let one = same_asking key.slots acts after (seat_at new other) (get_elem? table_2.views (asker_no key.slots seat)) (stage ∙ ap (λ (s : SeatValue). s.stage) now) (made ∙ ap (λ (s : SeatValue). s.made) now) asks in
+            let one = same_asking key.slots acts after (seat_at new other) (get_elem? table_2.views (asker_no key.slots seat)) (stage ∙ ap (λ (s : SeatValue). s.stage) now) (acts_now acts ∙ ap (act_now acts) now) asks in
             subst (λ (k : ℕ). IsAsking key.slots (get_or rules.acts k []) (seat_at new other) (get_elem? table_2.views (asker_no key.slots k))) (sym e) one)
             (λ ne.
             let now = get_or-set_other standing.seats seat other after new_seat ne in
-            let one = same_asking key.slots (get_or rules.acts other []) (seat_at standing other) (seat_at new other) (get_elem? table.views (asker_no key.slots other)) (stage ∙ ap (λ (s : SeatValue). s.stage) now) (made ∙ ap (λ (s : SeatValue). s.made) now)
+            let one = same_asking key.slots (get_or rules.acts other []) (seat_at standing other) (seat_at new other) (get_elem? table.views (asker_no key.slots other)) (stage ∙ ap (λ (s : SeatValue). s.stage) now) (acts_now (get_or rules.acts other []) ∙ ap (act_now (get_or rules.acts other [])) now)
             (r.askers other (omega arith)) in
             subst (λ (v : Found View). IsAsking key.slots (get_or rules.acts other []) (seat_at new other) v) (sym (others other ne)) one);
       }

@@ -1,6 +1,6 @@
 -- A use that is taken out of a slot, by its owner or by the party that asks for a seat.
 use Rattle.std.proofs.Common.{◌≡◌, ◌≢◌, ◌⊎◌, ℕ, ◌+◌, ◌*◌, ◌%◌, ◌<◌, Bool, true, false, not, ◌&&◌, ◌||◌, eqb, List, [], ◌∷◌, length, get_or, set, bit_or, Some, None, if◌then◌else◌, refl, sym, ap, ◌∙◌, subst, arith, length-set, get_or-set_same}
-use Rattle.std.specs.Prelude.{slice_get, ◌==◌}
+use Rattle.std.specs.Prelude.{◌==◌}
 use mathlib.Core.Option.{some}
 use lib.ListN.{get_elem?}
 use Rattle.irp_transcript.specs.declared.word_line.WordReply.TheVariants as reply
@@ -15,6 +15,8 @@ use Rattle.irp_slots.proofs.Steps.{take_back_keeps, flag_keeps, take_out_keeps}
 use Rattle.irp_remove.proofs.Observing.{or_one}
 use Rattle.irp_plain.specs.declared.parts.After.TheVariants.{In, Told}
 use Rattle.irp_plain.specs.declared.parts.Change.{Change}
+use Rattle.irp_plain.specs.declared.parts.ActPlace.{ActPlace}
+use Rattle.irp_machine.specs.Conditions.{act_now}
 use Rattle.irp_machine.specs.declared.parts.Planned.{Planned}
 use Rattle.irp_plain.specs.declared.parts.Slot.{Slot}
 use Rattle.irp_plain.specs.declared.parts.Stage.TheVariants as stages
@@ -33,7 +35,7 @@ use Rattle.irp_machine_laws.proofs.SlotShift.{else_at, none_at, one_at, over_fin
 use Rattle.irp_machine_laws.proofs.SlotActs.{Leads, found_if, standing_if}
 
 module _ (rules : RulesValue) (standing : StandingValue) (key : Parties) (table : SlotTable) (r : StandsFor rules standing key table) (seat : ℕ) (below : seat < length standing.seats)
-    (number : ℕ) (k : ℕ) (inside : k < key.slots) where
+    (which : ActPlace) (k : ℕ) (inside : k < key.slots) where
   abbrev own : SeatValue
   own = get_or standing.seats seat new_seat
 
@@ -44,7 +46,7 @@ module _ (rules : RulesValue) (standing : StandingValue) (key : Parties) (table 
   slot = slot_at standing k
 
   abbrev Goes : (Change → SlotTable → SlotTable → Type 0) → Change → Type 0
-  Goes kind step = Leads rules standing key table r seat below number k inside kind step
+  Goes kind step = Leads rules standing key table r seat below which k inside kind step
 
   is : IsOwned table k slot (over_seats (puts k) rules.acts standing.seats) (over_seats (finds k) rules.acts standing.seats)
   is = r.owned k inside
@@ -87,21 +89,21 @@ module _ (rules : RulesValue) (standing : StandingValue) (key : Parties) (table 
     own_or_none : (there ≡ 0) ⊎ (there ≡ o.published)
     own_or_none = subst (λ (n : ℕ). (content_of table.words n ≡ 0) ⊎ (content_of table.words n ≡ o.published)) is.own (own_found key table r.kept (owner_no k) o at inside_o)
 
-    takes_so : (step : Change) → step.slot ≡ Some (record { number = k; slot = slot_2 }) → put acts (after_step step number rules.tells own) ≡ None
-        → found acts (after_step step number rules.tells own) ≡ None → asked acts (after_step step number rules.tells own) ≡ None
+    takes_so : (step : Change) → step.slot ≡ Some (record { number = k; slot = slot_2 }) → put acts (after_step step which rules.tells own) ≡ None
+        → found acts (after_step step which rules.tells own) ≡ None → asked acts (after_step step which rules.tells own) ≡ None
         → step.after ≡ Told (Word (taken_or reply.Lost there)) → Goes (IsTakeBack k) step
     takes_so step writes put_none found_none asked_none answers =
-        let after : SeatValue = after_step step number rules.tells own in
+        let after : SeatValue = after_step step which rules.tells own in
         let before_puts = none_at k (put acts own) no_put in
         let after_puts = none_at k (put acts after) put_none in
         let after_finds = none_at k (found acts after) found_none in
-        let sum_puts = over_puts rules standing key table r seat below number step k in
-        let sum_finds = over_finds rules standing key table r seat below number step k in
+        let sum_puts = over_puts rules standing key table r seat below which step k in
+        let sum_finds = over_finds rules standing key table r seat below which step k in
         let puts_is = is.puts_is in
         let finds_is = is.finds_is in
-        let stands = owner_moves rules standing key table r seat below number step k inside (2 * k + 1) 0 slot_2 o_done kept_back
+        let stands = owner_moves rules standing key table r seat below which step k inside (2 * k + 1) 0 slot_2 o_done kept_back
         (record { flags_else = λ j ne. flag_same table.words k 0 j; contents_else = λ j ne. content_else table.words k 0 j ne })
-        (wrote rules standing key table r seat below number step k slot_2 less writes)
+        (wrote rules standing key table r seat below which step k slot_2 less writes)
         (record { puts_else = λ j ne. none_at j (put acts after) put_none ∙ sym (none_at j (put acts own) no_put); finds_else = λ j ne. none_at j (found acts after) found_none ∙ sym (finds_else j ne) })
         is.own (ap (λ (w : ℕ). w % 2) (flag_same table.words k 0 k) ∙ (is.flag_is ∙ ap one_if (sym flag_1))) (content_here table.words k 0 content_room)
         (used_1 ∙ (is.used_is ∙ begun)) stands_1 (omega arith) (omega arith)
@@ -173,16 +175,16 @@ module _ (rules : RulesValue) (standing : StandingValue) (key : Parties) (table 
     abbrev a_flagged : Asking
     a_flagged = record a { flagged = set a.flagged k true }
 
-    pub flags_it : asked_at stages.Flagged (slice_get acts own.made) ≡ Some k → Goes (IsFlag (asker_no key.slots seat) k) flag_step
+    pub flags_it : asked_at stages.Flagged (act_now acts own) ≡ Some k → Goes (IsFlag (asker_no key.slots seat) k) flag_step
     flags_it behind =
-        let after : SeatValue = after_step flag_step number rules.tells own in
+        let after : SeatValue = after_step flag_step which rules.tells own in
         let room : k < length a.flagged = let long = asker.flagged_long in let in_it = few in omega arith in
         let kept = flag_keeps key table r.kept (asker_no key.slots seat) k a asker.at inside room in
         let ored = or_one word in
         let odd : bit_or word 1 % 2 ≡ 1 = omega arith in
-        let stands = asker_moves rules standing key table r seat below number flag_step k inside (2 * k) (bit_or word 1) flag_slot a_flagged kept
+        let stands = asker_moves rules standing key table r seat below which flag_step k inside (2 * k) (bit_or word 1) flag_slot a_flagged kept
         (record { flags_else = λ j ne. flag_else table.words k (bit_or word 1) j ne; contents_else = λ j ne. content_same table.words k (bit_or word 1) j })
-        (wrote rules standing key table r seat below number flag_step k flag_slot less refl)
+        (wrote rules standing key table r seat below which flag_step k flag_slot less refl)
         (λ j. sym (none_at j (put acts own) no_put)) (λ j. sym (none_at j (found acts own) no_found))
         (ap (λ (w : ℕ). w % 2) (flag_here table.words k (bit_or word 1) flag_room) ∙ odd) (content_same table.words k (bit_or word 1) k ∙ is.content_is) refl refl
         (record {
@@ -214,16 +216,16 @@ module _ (rules : RulesValue) (standing : StandingValue) (key : Parties) (table 
     abbrev a_ended : Asking
     a_ended = record a { ended = set a.ended k true; taken = if eqb there 0 then a.taken else (k, there) ∷ a.taken }
 
-    out_so : asked acts own ≡ Some k → (step : Change) → step.slot ≡ Some (record { number = k; slot = out_slot }) → put acts (after_step step number rules.tells own) ≡ None
-        → found acts (after_step step number rules.tells own) ≡ None → asked acts (after_step step number rules.tells own) ≡ None
+    out_so : asked acts own ≡ Some k → (step : Change) → step.slot ≡ Some (record { number = k; slot = out_slot }) → put acts (after_step step which rules.tells own) ≡ None
+        → found acts (after_step step which rules.tells own) ≡ None → asked acts (after_step step which rules.tells own) ≡ None
         → step.after ≡ Told (Word (taken_or reply.Nothing there)) → Goes (IsTakeOut (asker_no key.slots seat) k) step
     out_so now step writes put_none found_none asked_none answers =
-        let after : SeatValue = after_step step number rules.tells own in
+        let after : SeatValue = after_step step which rules.tells own in
         let room : k < length a.ended = let long = asker.ended_long in let in_it = few in omega arith in
         let kept = take_out_keeps key table r.kept (asker_no key.slots seat) k a asker.at inside room (asker.has_flagged k now).1 in
-        let stands = asker_moves rules standing key table r seat below number step k inside (2 * k + 1) 0 out_slot a_ended kept
+        let stands = asker_moves rules standing key table r seat below which step k inside (2 * k + 1) 0 out_slot a_ended kept
         (record { flags_else = λ j ne. flag_same table.words k 0 j; contents_else = λ j ne. content_else table.words k 0 j ne })
-        (wrote rules standing key table r seat below number step k out_slot less writes)
+        (wrote rules standing key table r seat below which step k out_slot less writes)
         (λ j. none_at j (put acts after) put_none ∙ sym (none_at j (put acts own) no_put)) (λ j. none_at j (found acts after) found_none ∙ sym (none_at j (found acts own) no_found))
         (ap (λ (w : ℕ). w % 2) (flag_same table.words k 0 k) ∙ is.flag_is) (content_here table.words k 0 content_room) refl refl
         (record {

@@ -1,5 +1,5 @@
 -- Which table of the remove locks a standing of the machine stands for.
-use Rattle.std.specs.Prelude.{◌≡◌, ℕ, ◌+◌, ◌*◌, ◌<◌, ◌≤◌, ◌||◌, ◌&&◌, List, [], ◌∷◌, length, slice_get}
+use Rattle.std.specs.Prelude.{◌≡◌, ℕ, ◌+◌, ◌*◌, ◌<◌, ◌≤◌, ◌||◌, ◌&&◌, List, [], ◌∷◌, length}
 use Rattle.std.specs.Prelude.{Option, Some, None, nat_eq}
 use Rattle.std.specs.List.{list_any}
 use Rattle.std.specs.Option.{option_map_or, option_and_then}
@@ -18,6 +18,7 @@ use Rattle.irp_remove.specs.declared.views.View.TheVariants.{First, Observer, St
 use Rattle.irp_remove.specs.declared.views.Parties.{Parties}
 use Rattle.irp_remove.specs.Core.{Kept, total, flag}
 use Rattle.irp_plain.specs.declared.parts.Held.{Held as Reference}
+use Rattle.irp_machine.specs.Conditions.{act_now}
 use Rattle.irp_machine.specs.declared.parts.Planned.{Planned}
 use Rattle.irp_plain.specs.declared.parts.Stage.{Stage}
 use Rattle.irp_plain.specs.declared.parts.Stage.TheVariants as stages
@@ -95,7 +96,7 @@ tried_at other act = None
 
 -- the lock that a seat with these acts tries
 abbrev pub tried : List Planned → SeatValue → Option ℕ
-tried acts seat = tried_at seat.stage (slice_get acts seat.made)
+tried acts seat = tried_at seat.stage (act_now acts seat)
 
 -- 1 where the seat tries the lock
 abbrev pub tries : ℕ → List Planned → SeatValue → ℕ

@@ -1,6 +1,6 @@
 -- Which table of the cancel slots a standing of the machine stands for.
 use Rattle.std.specs.Prelude.{◌≡◌, ℕ, suc, ◌+◌, ◌%◌, ◌<◌, Bool, true, false, not, ◌&&◌, List, [], length}
-use Rattle.std.specs.Prelude.{slice_get, slice_index_or, Option, Some, None, nat_eq}
+use Rattle.std.specs.Prelude.{slice_index_or, Option, Some, None, nat_eq}
 use Rattle.std.specs.Option.{option_map_or, option_and_then}
 use mathlib.Core.Option.{Option as Found, some}
 use lib.ListN.{get_elem?}
@@ -16,6 +16,7 @@ use Rattle.irp_slots.specs.declared.views.View.{View}
 use Rattle.irp_slots.specs.declared.views.View.TheVariants.{Owner, Canceller}
 use Rattle.irp_slots.specs.declared.views.Parties.{Parties}
 use Rattle.irp_slots.specs.Core.{Kept, content_of, flag, flag_of, is_begun, is_standing}
+use Rattle.irp_machine.specs.Conditions.{act_now}
 use Rattle.irp_machine.specs.declared.parts.Planned.{Planned}
 use Rattle.irp_plain.specs.declared.parts.Slot.{Slot}
 use Rattle.irp_plain.specs.declared.parts.Stage.{Stage}
@@ -67,13 +68,13 @@ asked_at other act = None
 
 -- the same of a seat with these acts
 abbrev pub put : List Planned → SeatValue → Option ℕ
-put acts seat = put_at seat.stage (slice_get acts seat.made)
+put acts seat = put_at seat.stage (act_now acts seat)
 
 abbrev pub found : List Planned → SeatValue → Option ℕ
-found acts seat = found_at seat.stage (slice_get acts seat.made)
+found acts seat = found_at seat.stage (act_now acts seat)
 
 abbrev pub asked : List Planned → SeatValue → Option ℕ
-asked acts seat = asked_at seat.stage (slice_get acts seat.made)
+asked acts seat = asked_at seat.stage (act_now acts seat)
 
 -- 1 where the slot is this one
 abbrev pub is_at : ℕ → Option ℕ → ℕ

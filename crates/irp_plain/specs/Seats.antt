@@ -1,5 +1,6 @@
 -- Seats: how far they are, what they hold and know, and what a step makes of them.
 use Rattle.std.specs.Prelude.{ℕ, ◌+◌, ◌^◌, ◌==◌, ◌&&◌, Bool, false, if◌then◌else◌, nat_le, List, [], ◌∷◌, ◌++◌, Option, Some, None}
+use Rattle.irp_plain.specs.declared.parts.ActPlace.{ActPlace}
 use Rattle.irp_plain.specs.declared.parts.Stage.{Stage}
 use Rattle.irp_plain.specs.declared.parts.Stage.TheVariants as stages
 use Rattle.irp_plain.specs.declared.parts.Held.{Held}
@@ -12,7 +13,8 @@ use Rattle.irp_plain.specs.declared.parts.Change.{Change}
 use Rattle.irp_plain.specs.declared.answered.Told.{Told}
 use Rattle.irp_plain.specs.Lists.{with_more, without}
 
--- how many acts a seat has made, how far it is in the present one, what it holds, knows and took, and what it was told
+-- how many of its acts a seat is behind, made or passed over; how far it is in the present one; what it holds, knows and
+-- took; what it was told; and what it heard: the answers of those of its acts that conditions name
 pub record SeatValue : Type 0 where
   pub made : ℕ
   pub stage : Stage
@@ -20,10 +22,11 @@ pub record SeatValue : Type 0 where
   pub learned : List Learned
   pub taken : List Taken
   pub told : List Told
+  pub heard : List Told
 
 -- a seat that has made nothing
 abbrev pub new_seat : SeatValue
-new_seat = record { made = 0; stage = stages.Between; held = []; learned = []; taken = []; told = [] }
+new_seat = record { made = 0; stage = stages.Between; held = []; learned = []; taken = []; told = []; heard = [] }
 
 -- a reference to this lock under this tag
 abbrev pub is_held : ℕ → ℕ → Held → Bool
@@ -54,26 +57,41 @@ told_after Bound step = None
 abbrev pub told_of : After → ℕ → Bool → Option Told
 told_of after step tells = if tells then told_after after step else None
 
--- one more act made, as far as numbers go
+-- what a seat hears of a step that ends so: the answer of an act that a condition names
+abbrev pub heard_of : After → ActPlace → Option Told
+heard_of (In stage) place = None
+heard_of (IsTold answer) place = if place.is_read then Some (record { step = place.step; answer = answer }) else None
+heard_of (Binds answer irp) place = if place.is_read then Some (record { step = place.step; answer = answer }) else None
+heard_of Bound place = None
+
+-- one more act, as far as numbers go
 abbrev pub one_more : ℕ → ℕ
-one_more made = if nat_le (2 ^ 62) made then made else made + 1
+one_more at = if nat_le (2 ^ 62) at then at else at + 1
 
--- how many acts were made behind a step, and how far the present one is
-abbrev pub place_after : ℕ → After → ℕ × Stage
-place_after made (In stage) = (made, stage)
-place_after made (IsTold answer) = (one_more made, stages.Between)
-place_after made (Binds answer irp) = (made, stages.Answered irp)
-place_after made Bound = (one_more made, stages.Between)
+-- how many of its acts a seat is behind after a step of the act at this place
+abbrev pub made_after : ActPlace → ℕ → After → ℕ
+made_after place made (In stage) = made
+made_after place made (IsTold answer) = one_more place.at
+made_after place made (Binds answer irp) = made
+made_after place made Bound = one_more place.at
 
--- a seat behind a step of its own
-abbrev pub after_step : Change → ℕ → Bool → SeatValue → SeatValue
-after_step change step tells seat = record {
-  made = (place_after seat.made change.after).0;
-  stage = (place_after seat.made change.after).1;
+-- how far a seat is in its present act behind a step
+abbrev pub stage_after : After → Stage
+stage_after (In stage) = stage
+stage_after (IsTold answer) = stages.Between
+stage_after (Binds answer irp) = stages.Answered irp
+stage_after Bound = stages.Between
+
+-- a seat behind a step of its own, in the act at this place
+abbrev pub after_step : Change → ActPlace → Bool → SeatValue → SeatValue
+after_step change place tells seat = record {
+  made = made_after place seat.made change.after;
+  stage = stage_after change.after;
   held = with_more change.holds (without change.drops seat.held);
   learned = with_more change.learns seat.learned;
   taken = with_more change.takes (without change.spends seat.taken);
-  told = with_more (told_of change.after step tells) seat.told;
+  told = with_more (told_of change.after place.step tells) seat.told;
+  heard = with_more (heard_of change.after place) seat.heard;
 }
 
 -- a seat that was given a reference

@@ -103,5 +103,6 @@ impl Same for SeatState {
             && are_same(self.learned(), other.learned())
             && are_same(self.taken(), other.taken())
             && are_same(self.told(), other.told())
+            && are_same(self.heard(), other.heard())
     }
 }

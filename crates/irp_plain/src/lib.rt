@@ -22,7 +22,7 @@ pub use freed::{next_slot, note_freed};
 pub use keep::PlainKeep;
 pub use lists::{push_if, put_at};
 pub use parts::{
-    After, Change, Given, Held, Learned, NewLabel, NewSlot, NewWord, Slot, Stage, Taken,
+    ActPlace, After, Change, Given, Held, Learned, NewLabel, NewSlot, NewWord, Slot, Stage, Taken,
 };
 pub use same::{Same, are_same};
 pub use seat_state::{SeatState, knows_drained, place_of_taken};

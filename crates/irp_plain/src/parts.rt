@@ -4,6 +4,17 @@
 use crate::answered::Answered;
 use irp_types::IrpRef;
 
+/// Which act it is.
+#[derive(Clone, Copy)]
+pub struct ActPlace {
+    /// Its place among the script's steps.
+    pub step: u32,
+    /// Its place among its seat's acts.
+    pub at: usize,
+    /// Whether a condition names its step.
+    pub is_read: bool,
+}
+
 /// How far a seat is in its present act.
 #[derive(Clone, Copy, PartialEq, Eq)]
 pub enum Stage {

@@ -3,11 +3,11 @@
 ghost use Rattle.std.specs.Prelude.{◌≡◌, [], true, IfOk, OnOk, position};
 ghost use Rattle.std.specs.List.{list_any};
 ghost use mathlib.Core.Logic.{◌↔◌};
-ghost use Rattle.irp_plain.specs.Seats.{is_held, is_taken, is_removed, is_drained, after_step, new_seat, told_of, one_more, place_after, with_held};
+ghost use Rattle.irp_plain.specs.Seats.{is_held, is_taken, is_removed, is_drained, after_step, heard_of, new_seat, told_of, made_after, one_more, stage_after, with_held};
 
 use crate::answered::{Answered, Told};
 use crate::lists::changed;
-use crate::parts::{After, Change, Held, Learned, Stage, Taken};
+use crate::parts::{ActPlace, After, Change, Held, Learned, Stage, Taken};
 use std::alloc::{AllocError, Global};
 use std::marker::Model;
 use std::rc::Rc;
@@ -21,6 +21,7 @@ struct SeatParts {
     learned: Vec<Learned>,
     taken: Vec<Taken>,
     told: Vec<Told>,
+    heard: Vec<Told>,
 }
 
 impl Model for SeatParts {
@@ -35,6 +36,7 @@ impl Model for SeatParts {
       learned = seat.learned.items;
       taken = seat.taken.items;
       told = seat.told.items;
+      heard = seat.heard.items;
     } };
 }
 
@@ -44,20 +46,21 @@ impl SeatParts {
         &self,
         alloc: Global,
         change: Change,
-        step: u32,
+        place: ActPlace,
         tells: bool,
     ) -> Result<SeatParts, AllocError>
-        ensures { IfOk result (λ parts. parts ≡ after_step change step tells self.now) }
+        ensures { IfOk result (λ parts. parts ≡ after_step change place tells self.now) }
     {
-        let told = told_of(change.after, step, tells);
-        let (made, stage) = place_after(self.made, change.after);
+        let told = told_of(change.after, place.step, tells);
+        let heard = heard_of(change.after, place);
         Ok(SeatParts {
-            made,
-            stage,
+            made: made_after(place, self.made, change.after),
+            stage: stage_after(change.after),
             held: changed(alloc, &self.held, change.drops, change.holds)?,
             learned: changed(alloc, &self.learned, None, change.learns)?,
             taken: changed(alloc, &self.taken, change.spends, change.takes)?,
             told: changed(alloc, &self.told, None, told)?,
+            heard: changed(alloc, &self.heard, None, heard)?,
         })
     }
 
@@ -70,7 +73,8 @@ impl SeatParts {
     }
 }
 
-/// How far a seat is, what it holds and knows, and what it was told. Copies share it until one of them is changed.
+/// How far a seat is, what it holds and knows, and what it was told and heard. Copies share it until one of them is
+/// changed.
 ///
 /// Contracts see it as the record `SeatValue` of this crate.
 #[derive(Clone, Drop)]
@@ -98,13 +102,14 @@ impl SeatState {
             learned: Vec::new(alloc),
             taken: Vec::new(alloc),
             told: Vec::new(alloc),
+            heard: Vec::new(alloc),
         };
         Ok(SeatState {
             parts: Rc::new(alloc, parts)?,
         })
     }
 
-    /// How many of its acts it has made.
+    /// How many of its acts it is behind: made, or passed over.
     pub fn made(&self) -> usize
         ensures { result ≡ self.now.made }
     {
@@ -139,6 +144,13 @@ impl SeatState {
         self.parts.told.as_slice()
     }
 
+    /// What those of its acts were answered that conditions name.
+    pub fn heard(&self) -> &[Told]
+        ensures { result.now ≡ self.now.heard }
+    {
+        self.parts.heard.as_slice()
+    }
+
     /// What it knows of locks.
     pub fn learned(&self) -> &[Learned]
         ensures { result.now ≡ self.now.learned }
@@ -146,12 +158,12 @@ impl SeatState {
         self.parts.learned.as_slice()
     }
 
-    /// Makes a change of its own.
-    pub fn change(&mut self, change: Change, step: u32, tells: bool) -> Result<(), AllocError>
-        ensures { OnOk result (self.new ≡ after_step change step tells self.old) }
+    /// Makes a change of its own, in the act at this place.
+    pub fn change(&mut self, change: Change, place: ActPlace, tells: bool) -> Result<(), AllocError>
+        ensures { OnOk result (self.new ≡ after_step change place tells self.old) }
     {
         let alloc = *self.parts.told.allocator();
-        let parts = self.parts.changed(alloc, change, step, tells)?;
+        let parts = self.parts.changed(alloc, change, place, tells)?;
         self.parts = Rc::new(alloc, parts)?;
         Ok(())
     }
@@ -177,24 +189,48 @@ fn told_of(after: After, step: u32, tells: bool) -> Option<Told>
     }
 }
 
-/// One more act made. No seat gets to where there is none.
-fn one_more(made: usize) -> usize
-    ensures { result ≡ one_more made }
+/// What a seat hears of a step: the answer of an act that a condition names.
+fn heard_of(after: After, place: ActPlace) -> Option<Told>
+    ensures { result ≡ heard_of after place }
 {
-    if made >= 1 << 62 {
-        return made;
+    if !place.is_read {
+        return None;
     }
-    made + 1
+    let step = place.step;
+    match after {
+        After::Told(answer) | After::Binds(answer, _) => Some(Told { step, answer }),
+        After::In(_) | After::Bound => None,
+    }
 }
 
-/// How many acts were made behind a step, and how far the present one is.
-fn place_after(made: usize, after: After) -> (usize, Stage)
-    ensures { result ≡ place_after made after }
+/// One more act. No seat gets to where there is none.
+fn one_more(at: usize) -> usize
+    ensures { result ≡ one_more at }
+{
+    if at >= 1 << 62 {
+        return at;
+    }
+    at + 1
+}
+
+/// How many of its acts a seat is behind after a step of the act at this place.
+fn made_after(place: ActPlace, made: usize, after: After) -> usize
+    ensures { result ≡ made_after place made after }
 {
     match after {
-        After::In(stage) => (made, stage),
-        After::Binds(_, irp) => (made, Stage::Answered(irp)),
-        After::Told(_) | After::Bound => (one_more(made), Stage::Between),
+        After::In(_) | After::Binds(..) => made,
+        After::Told(_) | After::Bound => one_more(place.at),
+    }
+}
+
+/// How far a seat is in its present act behind a step.
+fn stage_after(after: After) -> Stage
+    ensures { result ≡ stage_after after }
+{
+    match after {
+        After::In(stage) => stage,
+        After::Binds(_, irp) => Stage::Answered(irp),
+        After::Told(_) | After::Bound => Stage::Between,
     }
 }
 

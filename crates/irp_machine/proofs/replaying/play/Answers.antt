@@ -20,4 +20,4 @@ returns-clause-plays c =
     c.in_ok-before.ensures c.in_ok-change.ensures.records in
     played_in machine standing c.act_again.new.standing c.change.new.self c.args.seat planned (act_of machine standing c.args.seat) c.args.entries.now.items
     c.act_again.new.entries.items c.in_ok-change.change act acted
-    (c.in_ok-change-2.ensures ∙ ap (λ tells. after_change c.args.seat c.in_ok-change.change planned.step tells c.act_again.new.standing) c.tells.ensures)
+    (c.in_ok-change-2.ensures ∙ ap (λ tells. after_change c.args.seat c.in_ok-change.change planned.place tells c.act_again.new.standing) c.tells.ensures)
