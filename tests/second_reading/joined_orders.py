@@ -35,30 +35,37 @@ def after(script, path, *more):
     return stepper if able else None
 
 
+def longer(paths, seat):
+    """Returns these paths with one atomic step more: for each path its changes of seat, under the last seat."""
+    changes, path = min((changes + (last not in (seat, None)), path) for last, (changes, path) in paths.items())
+    return changes, (*path, seat)
+
+
 def counted(script):
     """Returns how many orders have which outcome, and for each outcome the seats of an order that ends so and changes its seat
     least often. An outcome is as in `orders_of`."""
-    found, paths = collections.Counter(), {}
-    layer = {b'': (1, ())}
+    found, fewest = collections.Counter(), {}
+    # Of each state how many orders lead to it, and for each seat an order whose last step is this seat's.
+    layer = {b'': (1, {None: (0, ())})}
     while layer:
         following = {}
-        for count, path in layer.values():
-            ends = True
+        for count, paths in layer.values():
+            path, ends = min(paths.values())[1], True
             for seat in range(script.seats):
                 stepper = after(script, path, seat)
                 if stepper is None:
                     continue
                 ends = False
-                longer = (*path, seat)
-                state = state_of(stepper, [longer.count(k) for k in range(script.seats)])
-                before = following.get(state, (0, longer))
-                following[state] = before[0] + count, before[1]
+                state = state_of(stepper, [(*path, seat).count(k) for k in range(script.seats)])
+                orders, its = following.setdefault(state, (0, {}))
+                its[seat] = min(its.get(seat, longer(paths, seat)), longer(paths, seat))
+                following[state] = orders + count, its
             if ends:
-                outcome = outcome_of(after(script, path))
+                outcome, best = outcome_of(after(script, path)), min(paths.values())
                 found[outcome] += count
-                paths.setdefault(outcome, path)
+                fewest[outcome] = min(fewest.get(outcome, best), best)
         layer = following
-    return found, paths
+    return found, {outcome: path for outcome, (_, path) in fewest.items()}
 
 
 def is_refused(reply):
