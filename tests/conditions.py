@@ -40,6 +40,7 @@ TABLES = {
     "a_removal_released_too_early": (147, 67, [53, 37, 30, 23, 2, 2]),
     "a_removal_without_a_check_by_the_remover": (175, 122, [75, 35, 30, 23, 12]),
     "a_removal_without_a_check_by_the_sender": (225, 170, [168, 30, 25, 2]),
+    "a_removal_that_keeps_its_reference": (50, 25, [25, 23, 2]),
     "a_slot_with_references": (424541, 0, None),
     "a_slot_with_a_reference_too_few": (40102, 1372, None),
 }
