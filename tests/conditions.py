@@ -5,7 +5,7 @@ run` has to print what the model prints. Of COUNT small ones irp_orders has to t
 the model, which makes each order. Of every tenth of these each of RUNS / 4 runs, with as many workers as the script has
 seats, has to print one of the outcomes; so does each of RUNS runs of an example in examples/right. Of the examples the model
 and irp_orders have to tell the numbers of orders that were worked out beforehand, and of how many that aren't right; of the
-latter irp_orders with the word --right, where it has that. Where irpx refuses form 3, only the model is asked. Prints a line
+latter irp_orders with the word --right, where it has that. Where a program refuses form 3, it isn't asked. Prints a line
 for each difference, and then how many were tried. Ends with status 0, or 1 where something differs.
 """
 
@@ -27,7 +27,7 @@ from layouts import encode, text_of
 from orders_of_steps import orders_of
 from running import run
 from scripts import read_script
-from small_tries import takes_form_3
+from small_tries import SMALL, takes_form_3
 
 # Of each example how many orders it has, how many of these aren't right, and how many end in each of its outcomes.
 TABLES = {
@@ -127,22 +127,26 @@ def example(name, runs):
 
 def has_right(irp_orders):
     """Returns whether irp_orders takes the word --right."""
-    left = subprocess.run([irp_orders, "--right"], input=text_of_example("a_cancel_by_a_slot"), capture_output=True, timeout=300)
+    left = subprocess.run([irp_orders, "--right"], input=SMALL, capture_output=True, timeout=300)
     return not (left.returncode == 4 and b"usage" in left.stderr)
 
 
 def main():
     irp_orders, irpx, count, runs, seed = sys.argv[1], sys.argv[2], *map(int, sys.argv[3:6])
-    tasks, is_checked = [(by_model, name) for name in TABLES], False
-    if takes_form_3(irpx):
-        is_checked = has_right(irp_orders)
-        if not is_checked:
-            print("passed over, since irp_orders has no --right: which orders are right, but by the model")
-        tasks += [(example, name, runs) for name in TABLES]
+    is_run, is_ordered, is_checked = takes_form_3(irpx, "run"), takes_form_3(irp_orders), has_right(irp_orders)
+    for able, told in (
+        (is_run, "irpx refuses form 3 of scripts: steps on conditions, but by the model"),
+        (is_ordered, "irp_orders refuses form 3 of scripts: orders of steps on conditions, but by the model"),
+        (is_checked, "irp_orders has no --right: which orders are right, but by the model"),
+    ):
+        if not able:
+            print("passed over, since", told)
+    tasks = [(by_model, name) for name in TABLES]
+    if is_run:
         tasks += [(by_one_worker, seed, number) for number in range(count)]
+    if is_run and is_ordered:
+        tasks += [(example, name, runs) for name in TABLES]
         tasks += [(by_orders, seed, number, max(1, runs // 4)) for number in range(count)]
-    else:
-        print("passed over, since irpx refuses form 3 of scripts: steps on conditions, but by the model")
     tally = work(tasks, prepare, (irp_orders, irpx, is_checked))
     tally.tell()
     return 1 if tally.wrong else 0

@@ -59,7 +59,7 @@ def condition_on(rng, steps, heard, seat):
 
 
 def with_conditions(rng, s, share=None):
-    """Returns this script of form 2 as one of form 3: a share of its steps has conditions, some that hold and some that fail."""
+    """Returns this script of form 2 as one of form 3: a share of its steps has conditions, some of which hold."""
     share = rng.choice([.1, .4, .4, .8]) if share is None else share
     s = dict(copy.deepcopy(s), form=3)
     runner = Runner(read_head(s))
@@ -112,7 +112,7 @@ def racing_script(rng):
 
 
 def wrong_condition(rng, s):
-    """Returns this script with one condition that is wrong, or that stands where none may: often as a script of another form."""
+    """Returns this script with one condition that is wrong, or that stands where none may."""
     s = copy.deepcopy(s)
     if not s['steps']:
         return s

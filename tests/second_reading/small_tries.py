@@ -6,6 +6,6 @@ SMALL = (b'{"form":3,"seats":1,"locks":1,"slots":0,"completions":[],"cancels":[]
          b'"steps":[]}')
 
 
-def takes_form_3(irpx):
-    """Returns whether a program runs scripts of form 3."""
-    return subprocess.run([irpx, 'run'], input=SMALL, capture_output=True).returncode == 0
+def takes_form_3(*words):
+    """Returns whether a program, started with these words, takes scripts of form 3."""
+    return subprocess.run(words, input=SMALL, capture_output=True).returncode == 0
