@@ -27,7 +27,7 @@ def row(*items, description=None):
 def step(do, description, **keys):
     return {'title': do, 'description': description, 'type': 'object', 'additionalProperties': False,
             'required': ['seat', 'do'] + list(keys),
-            'properties': dict({'seat': ref('seat'), 'do': {'const': do}}, **keys)}
+            'properties': dict({'seat': ref('seat'), 'do': {'const': do}}, **keys, **{'if': ref('condition')})}
 
 
 u32, u64 = ref('u32'), ref('u64')
@@ -66,10 +66,11 @@ SLOTS = [
 ]
 
 
-def by_do(steps):
-    """A step is of the form that its `do` names: so a message names the key that is wrong, and not 17 forms."""
+def by_do(steps, **more):
+    """A step is of the form that its `do` names: so a message names the key that is wrong, and not 17 forms. Only the steps
+    of form 3 may have a condition."""
     return {'type': 'object', 'required': ['seat', 'do'],
-            'properties': {'do': {'enum': [s['title'] for s in steps]}},
+            'properties': dict({'do': {'enum': [s['title'] for s in steps]}}, **more),
             'allOf': [{'if': {'properties': {'do': {'const': s['title']}}, 'required': ['do']},
                        'then': ref('step_' + s['title'])} for s in steps]}
 
@@ -94,6 +95,14 @@ PLANS = {
                         description='pends, copies, sets a routine, sends on'),
 }
 PLANS_2 = dict(PLANS, hold_slot=row({'const': 'hold_slot'}, description='pends and keeps, for a cancel slot'))
+NO_CONDITION = {'if': False}
+# The answers that a condition names by a word: kinds of replies, then words of word lines.
+ANSWERS = ['refused', 'success', 'routine', 'done', 'yes', 'busy', 'standing', 'taken', 'lost', 'nothing', 'seat_full',
+           'not_held', 'already_removing', 'no_lock', 'used', 'not_standing', 'no_slot', 'no_token']
+REFUSALS = ['NoIrp', 'Stale', 'NoDevice', 'DeviceGone', 'NotOwner', 'NoLocation', 'NotPrepared', 'AfterSkip', 'TooShort',
+            'WrongTarget', 'NoRoutine', 'BadStatus', 'CancelRoutineSet', 'AlreadyCancelled', 'InFlight', 'StillAttached',
+            'SameStack', 'TooDeep', 'Full', 'NothingAttached', 'NotDrained', 'BadSize', 'BadMajor', 'NoDriver', 'Ended',
+            'HistoryFull', 'NoLock', 'SlotHeld', 'NotSlotHeld']
 BEHAVIOURS = {
     'watch': [{'const': 'continue'}] * 2, 'change': [ref('goes_on')] * 2, 'keeper': [{'const': 'keep'}] * 2,
     'keep_on_error': [{'const': 'continue'}, {'const': 'keep'}], 'free': [ref('behaviour')] * 2,
@@ -107,8 +116,9 @@ schema = {
     'type': 'object',
     'required': ['form', 'seats', 'locks', 'completions', 'cancels', 'dispatches', 'drivers', 'setup', 'steps'],
     'properties': {
-        'form': {'enum': [1, 2],
-                 'description': '1: packets and stacks up to 16; 2: up to 32, cancel slots, references handed over'},
+        'form': {'enum': [1, 2, 3],
+                 'description': '1: packets and stacks up to 16; 2: up to 32, cancel slots, references handed over; '
+                                '3: as 2, and steps on conditions'},
         'seats': whole(64, 1, 'the callers, numbered from 0'),
         'locks': whole(64, 1, 'the remove locks, numbered from 0'),
         'completions': {'type': 'array', 'maxItems': 1280, 'items': ref('completion')},
@@ -117,12 +127,14 @@ schema = {
         'drivers': {'type': 'array', 'maxItems': 64, 'items': ref('driver')},
         'setup': {'type': 'array', 'items': ref('call')},
         'steps': {'type': 'array'},
-        'slots': whole(64, 0, 'form 2: the cancel slots; slot k belongs to seat k modulo seats'),
+        'slots': whole(64, 0, 'forms 2 and 3: the cancel slots; slot k belongs to seat k modulo seats'),
     },
     'additionalProperties': False,
-    'if': {'properties': {'form': {'const': 2}}, 'required': ['form']},
-    'then': {'required': ['slots'],
-             'properties': {'dispatches': {'items': ref('plan_2')}, 'steps': {'items': ref('step_2')}}},
+    'if': {'properties': {'form': {'enum': [2, 3]}}, 'required': ['form']},
+    'then': {'required': ['slots'], 'properties': {'dispatches': {'items': ref('plan_2')}},
+             'if': {'properties': {'form': {'const': 3}}},
+             'then': {'properties': {'steps': {'items': ref('step_3')}}},
+             'else': {'properties': {'steps': {'items': ref('step_2')}}}},
     'else': {'properties': {'slots': False, 'dispatches': {'items': ref('plan_1')}, 'steps': {'items': ref('step_1')}}},
     '$defs': dict({
         'u8': whole(U8), 'u32': whole(U32), 'u64': whole(U64),
@@ -152,7 +164,15 @@ schema = {
         'cancel': by_first({'finish': row({'const': 'finish'}, u64), 'leave': row({'const': 'leave'})}),
         'plan_1': by_first(PLANS), 'plan_2': by_first(PLANS_2),
         'driver': {'type': 'array', 'maxItems': 28, 'items': row(whole(27), u32, description='[major, dispatch]')},
-        'call': by_do(CALLS), 'step_1': by_do(CALLS + LOCKS), 'step_2': by_do(CALLS + LOCKS + SLOTS),
+        'condition': row({'enum': ['is', 'is_not']}, u32, ref('answer'),
+                         description='the step is made only where an earlier step of its seat, by its place in steps, '
+                                     'was answered so, or was made and answered otherwise'),
+        'answer': {'if': {'type': 'string'}, 'then': {'enum': ANSWERS}, 'else': {
+            'type': 'object', 'minProperties': 1, 'maxProperties': 1, 'additionalProperties': False,
+            'properties': {'refused': {'enum': REFUSALS}, 'status': ref('status'), 'previous': or_null(u32),
+                           'cancelled': {'type': 'boolean'}}}},
+        'call': by_do(CALLS, **NO_CONDITION), 'step_1': by_do(CALLS + LOCKS, **NO_CONDITION),
+        'step_2': by_do(CALLS + LOCKS + SLOTS, **NO_CONDITION), 'step_3': by_do(CALLS + LOCKS + SLOTS),
     }, **{'step_' + s['title']: s for s in CALLS + LOCKS + SLOTS}),
 }
 TEXT = json.dumps(schema, indent=1) + '\n'

@@ -1,8 +1,9 @@
 #!/usr/bin/env python3
 """Tries schema/script.schema.json: each script of examples/ is valid, and so is each text of refused/scripts.txt that
-`irpx run` takes. Of the refused ones the schema sees all but those that no schema can see, which are counted here by
-their fault: numbers against other numbers (a seat of a step below `seats`, a slot of another seat), 1.0 for 1, a key
-that stands twice, labels that are too many. Needs the Python package jsonschema.
+`irpx run` takes, and each script of form 3 of second_reading/conditions_by_hand.py that the second reading takes. Of the
+refused ones the schema sees all but those that no schema can see, which are counted here by their fault: numbers against
+other numbers (a seat of a step below `seats`, a slot of another seat, a condition on a later step), 1.0 for 1, a key that
+stands twice, labels that are too many. Needs the Python package jsonschema.
 """
 import collections
 import json
@@ -12,8 +13,13 @@ import sys
 from jsonschema import Draft202012Validator
 
 TOP = os.path.dirname(os.path.dirname(os.path.realpath(__file__)))
+sys.path.append(os.path.join(TOP, 'tests', 'second_reading'))
+
+import conditions_by_hand  # noqa: E402
+from running import run  # noqa: E402
+
 # What is refused and valid, by the fault's number.
-UNSEEN = {'S4': 45, 'S6': 7, 'S7': 2}
+UNSEEN = {'S3': 1, 'S4': 57, 'S6': 7, 'S7': 2}
 
 
 def scripts():
@@ -27,6 +33,13 @@ def texts():
     with open(os.path.join(TOP, 'tests', 'refused', 'scripts.txt'), 'rb') as file:
         lines = [line for line in file.read().split(b'\n') if not line.startswith(b'#')]
     return [(told.decode(), text) for told, text in zip(lines[0::2], lines[1::2]) if told]
+
+
+def texts_of_form_3():
+    """Returns what is told of each script of form 3 that was written by hand, and the text."""
+    for _, text in conditions_by_hand.cases():
+        what, told = run(text)
+        yield 'taken' if what == 'ok' else told, text
 
 
 def value_of(text):
@@ -50,7 +63,7 @@ def main():
                 wrong += 1
                 print('failed: not valid:', os.path.relpath(path, TOP))
     unseen = collections.Counter()
-    for told, text in texts():
+    for told, text in [*texts(), *texts_of_form_3()]:
         tried += 1
         valid = any(validator.is_valid(value) for value in value_of(text))
         if told == 'taken' and not valid:

@@ -101,6 +101,7 @@ static bool ask_routine(Packet *p, Entry *e, int j, Location l)
     check_power_routine(p, device);
     p->asking = NULL;
     a->plan = CONTINUE;
+    decided_by(a, &f);
     a->mark = mark_of(p, &f, l.pending, had);
     const ULONG status = (ULONG)p->irp->IoStatus.Status;
     if (status != p->status || p->irp->IoStatus.Information != p->information) {
@@ -161,6 +162,7 @@ void finish_asked(Packet *p, Frame *f, ULONG status, uint64_t information)
     Asked *a = &f->e->asked[f->i];
     f->settled = true;
     a->plan = FINISH;
+    decided_here(a);
     a->new_status = status;
     a->new_information = information;
     p->asking = NULL;

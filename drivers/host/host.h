@@ -57,8 +57,12 @@ typedef struct {
     bool kept, replaced;
 } Setting;
 
-/* One question of an entry: whom it was put to, what was shown, what was answered. */
+/* Where a driver or a test made a call of the host. */
+typedef struct { WDM_SITE site; const char *call; } CallSite;
+
+/* One question of an entry: whom it was put to, what was shown, what was answered, and where that was decided. */
 typedef struct {
+    CallSite at;
     Kind kind;
     Plan plan;
     void *fn;
@@ -83,7 +87,8 @@ struct Entry {
     Setting *set;
     PDRIVER_CANCEL routine;
     Asked *asked;
-    int n;
+    int n, driver; /* driver: whose code made the call, or none */
+    CallSite at;
     size_t number;
     Reply reply;
     uint64_t answer;
@@ -380,6 +385,7 @@ bool lock_knows_drained(int device);
 const char *held_tags(int device);
 
 #include "checks.h"
+#include "placing.h"
 #include "told.h"
 
 #endif

@@ -269,6 +269,8 @@ VOID WdmIoMarkIrpPending(PIRP Irp, WDM_SITE at)
     if (f && on_top(p) == f && f->kind != CANCELLING && !(f->kind == DISPATCH && p->skipped)) {
         const int j = f->kind == ROUTINE ? f->location + 1 : f->location;
         f->marked = true;
+        if (f->kind == DISPATCH)
+            decided_here(&f->e->asked[f->i]);
         if (j <= p->size) {
             set_pending_bit(p, j, true);
             if (f->kind == ROUTINE && p->at[j].frame)

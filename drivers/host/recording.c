@@ -20,7 +20,8 @@ Entry *begin(Op op, Packet *p, int by)
     Entry *e = calloc(1, sizeof *e);
     if (!e)
         give_up("out of memory");
-    *e = (Entry){ .op = op, .seat = self.seat, .by = by, .p = p, .slot = p ? p->slot : 0, .use = p ? p->use : 0 };
+    *e = (Entry){ .op = op, .seat = self.seat, .by = by, .p = p, .slot = p ? p->slot : 0, .use = p ? p->use : 0, .driver = NOBODY };
+    begun_here(e);
     return e;
 }
 

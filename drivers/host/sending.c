@@ -126,6 +126,7 @@ static NTSTATUS pass_down(Packet *p, Frame *f, int d)
     Asked *a = &f->e->asked[f->i];
     const Location here = p->at[p->current];
     f->settled = f->passed = true;
+    decided_here(a);
     if (p->skipped) {
         if (word_of(raw_at(p, p->current)) != here.word)
             note("outside the model", "%s: changes its own parameters and skips: the record has them as first sent",

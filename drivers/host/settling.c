@@ -30,6 +30,7 @@ void take_kept_answer(Packet *p, Frame *f)
     const ULONG status = f->handed_over ? f->status : own ? (ULONG)p->irp->IoStatus.Status : p->status;
     const uint64_t information = f->handed_over ? f->information : own ? p->irp->IoStatus.Information : p->information;
     a->plan = KEEP;
+    decided_by(a, f);
     p->kept_by = f->fn;
     set->kept = true;
     if ((status != p->status || information != p->information) && rules_completable(status)) {
@@ -66,6 +67,8 @@ static void hold(Packet *p, Frame *f)
 {
     Asked *a = &f->e->asked[f->i];
     a->plan = HOLD;
+    if (!a->at.call)
+        decided_by(a, f);
     a->cancel = p->routine = f->cancel;
     if (f->cancel && p->cancel)
         fault_of("AlreadyCancelled", p, f, "holds it with a cancel routine that was set at %s, after the cancel",
@@ -105,6 +108,7 @@ void settle(Packet *p, bool returned)
     tell_waiters(&host_settled);
     if (f->kind == CANCELLING) {
         f->e->asked[f->i].plan = LEAVE;
+        decided_by(&f->e->asked[f->i], f);
         seal(f->e, p->cancel);
         return;
     }

@@ -212,6 +212,8 @@ static size_t write_out(void)
         fflush(out);
     else
         fclose(out);
+    if (path && !is_exploring)
+        write_places(path, n);
     hand_in(text, length, n);
     write_summary(n);
     say("%zu entries, %d faults, %d notes, %d settled early by another thread", n, n_faults, n_notes, n_early);

@@ -5,9 +5,9 @@ typedef enum { WATCH, CHANGE, KEEPER, KEEP_ON_ERROR, FREE_RULE } Rule;
 static const char *const rule_names[] = { "watch", "change", "keeper", "keep_on_error", "free" };
 typedef struct { int seat, lock, to; const char *act, *reply; uint64_t tag; unsigned step; } Word;
 
-static void *dispatches[MAX_IDS], *cancels[MAX_IDS], *routines[5][MAX_IDS];
+Ids ids;
 static bool finishes[MAX_IDS], leaves[MAX_IDS];
-static int n_dispatches, n_cancels, n_routines[5], n_declared;
+static int n_declared;
 static struct { PIO_COMPLETION_ROUTINE fn; Rule rule; } declared[64];
 static Word *words;
 static size_t n_words, words_room;
@@ -54,9 +54,9 @@ static Rule rule_of(const Setting *s)
     return s->kept ? s->replaced ? FREE_RULE : KEEPER : s->replaced ? CHANGE : WATCH;
 }
 
-static int routine_of(const Setting *s) { return id_in(routines[rule_of(s)], &n_routines[rule_of(s)], (void *)s->fn); }
-static int dispatch_of(void *fn) { return id_in(dispatches, &n_dispatches, fn); }
-static int cancel_of(PDRIVER_CANCEL fn) { return id_in(cancels, &n_cancels, (void *)fn); }
+static int routine_of(const Setting *s) { return id_in(ids.routines[rule_of(s)], &ids.n_routines[rule_of(s)], (void *)s->fn); }
+static int dispatch_of(void *fn) { return id_in(ids.dispatches, &ids.n_dispatches, fn); }
+static int cancel_of(PDRIVER_CANCEL fn) { return id_in(ids.cancels, &ids.n_cancels, (void *)fn); }
 
 static void put_party(FILE *o, int by)
 {
@@ -257,7 +257,7 @@ static void put_driver(FILE *o, const DRIVER_OBJECT *d)
 
 static void put_header(FILE *o)
 {
-    const int *r = n_routines;
+    const int *r = ids.n_routines;
     char *tables = NULL;
     size_t length = 0;
     FILE *t = open_memstream(&tables, &length);
@@ -269,12 +269,12 @@ static void put_header(FILE *o)
     }
     fclose(t);
     fputs("{\"cancels\":[", o);
-    for (int i = 0; i < n_cancels; i++)
+    for (int i = 0; i < ids.n_cancels; i++)
         fprintf(o, "%s\"%s\"", i ? "," : "",
                 finishes[i] == leaves[i] ? "either" : finishes[i] ? "must_finish" : "must_leave");
     fprintf(o, "],\"completions\":[%d,%d,%d,%d,%d],\"dispatches\":[", r[0], r[1], r[2], r[3], r[4]);
-    for (int i = 0; i < n_dispatches; i++)
-        fprintf(o, "%s[%d,%d,%d,%d,%d,%d]", i ? "," : "", r[0], r[1], r[2], r[3], r[4], n_cancels);
+    for (int i = 0; i < ids.n_dispatches; i++)
+        fprintf(o, "%s[%d,%d,%d,%d,%d,%d]", i ? "," : "", r[0], r[1], r[2], r[3], r[4], ids.n_cancels);
     fprintf(o, "],\"drivers\":[%s],\"form\":2,\"locks\":%d,\"seats\":%d,\"slots\":0}\n", tables,
             n_devices ? n_devices : 1, n_seats ? n_seats : 1);
     free(tables);

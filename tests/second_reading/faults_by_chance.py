@@ -19,7 +19,7 @@ KEYS = ['seat', 'do', 'irp', 'by', 'lock', 'tag', 'to', 'slot', 'slots', 'as', '
         'size',
         'major', 'word', 'set', 'cancel', 'target', 'driver', 'lower', 'form', 'seats', 'locks', 'steps', 'setup', 'x',
         '',
-        'drained', 'token', 'reply', 'call', 'n', 'asked', 'step', 'Seat', 'seat ', 'cancels', 'drivers']
+        'drained', 'token', 'if', 'reply', 'call', 'n', 'asked', 'step', 'Seat', 'seat ', 'cancels', 'drivers']
 
 
 def places(v, path=()):

@@ -41,7 +41,7 @@ def plan(rng, form, counts, cancels):
     """Returns a plan of a dispatch."""
     kind = rng.choice(['finish', 'finish', 'hold', 'hold', 'hold', 'hold', 'skip', 'forward', 'forward', 'forward_pend',
                        'forward_pend']
-                      + (['hold_slot'] * 4 if form == 2 else []))
+                      + (['hold_slot'] * 4 if form != 1 else []))
     if kind == 'finish':
         return ['finish', rng.choice(STATUSES), rng.choice(INFOS)]
     if kind == 'hold':
@@ -56,7 +56,7 @@ def plan(rng, form, counts, cancels):
 def head(rng, form):
     """Returns a script without steps."""
     s = {'form': form, 'seats': rng.choice([1, 2, 2, 3, 4]), 'locks': rng.choice([1, 1, 2, 3])}
-    if form == 2:
+    if form != 1:
         s['slots'] = rng.choice([0, 1, 2, 3, 4, 4])
     rules = [rng.choice(RULES) for _ in range(rng.choice([0, 1, 3, 5, 8]))]
     s['completions'] = [[r] + behaviours(rng, r) for r in rules]

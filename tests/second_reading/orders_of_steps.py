@@ -8,6 +8,7 @@ docs/CANCEL_SLOTS.md.
 import collections
 import math
 
+from conditions_of_steps import heard_in, holds
 from json_texts import compact
 from running import UNBOUND, Runner
 
@@ -20,9 +21,10 @@ class Stepper(Runner):
         super().__init__(script)
         for step in script.setup:
             self.step(step)
-        self.begun = len(self.entries)
         # The locks whose removal a seat's own begin_remove found or set.
         self.removed = [set() for _ in range(script.seats)]
+        # What each seat read a label as, until it makes the call that names it.
+        self.read = [None] * script.seats
         # The seats whose steps bind each label, and those whose steps read it or bind it.
         self.binders, self.namers = collections.defaultdict(set), collections.defaultdict(set)
         for step in script.steps:
@@ -36,7 +38,7 @@ class Stepper(Runner):
 
     def seat(self, number):
         for place, step in enumerate(self.script.steps):
-            if step['seat'] == number:
+            if step['seat'] == number and holds(step, self.heard):
                 yield from self.act(step, place)
 
     def read_apart(self, step):
@@ -66,7 +68,9 @@ class Stepper(Runner):
         binds_apart = bound is not None and bool(self.namers[bound] - {step['seat']})
         if apart:
             step = dict(step, irp=list(self.labels.get(step['irp'], UNBOUND)))
+            self.read[step['seat']] = step['irp']
             yield
+            self.read[step['seat']] = None
         before = self.labels.get(bound)
         self.step(step, place)
         reply = self.entries[-1]['reply'] if bound is not None else None
@@ -111,7 +115,9 @@ class Stepper(Runner):
         if isinstance(irp, str):
             label, irp = irp, self.labels.get(irp, UNBOUND)
             if self.binders[label] - {step['seat']}:
+                self.read[step['seat']] = irp
                 yield
+                self.read[step['seat']] = None
         if slots.owner[slot] != 'idle':
             self.word(step, place, 'used')
             yield
@@ -184,11 +190,14 @@ def other_end(stepper):
     return compact([labels, locks.count, locks.removed, holders, slots.flag, slots.content])
 
 
-def replies_of(lines, begun):
-    """Returns what the steps behind `setup` were answered: of each seat its calls in order, and the word lines."""
-    calls = [(e['seat'], e['call']['do'], e['reply']) for e in lines if 'call' in e][begun:]
-    words = [(w['seat'], w['step'], w['do'], w['reply']) for w in lines if 'step' in w]
-    return compact([sorted(calls, key=lambda c: c[0]), words])
+def replies_of(script, lines):
+    """Returns what the steps behind `setup` were answered, each by its place, as these lines of a transcript tell it."""
+    return compact(sorted(heard_in(script, lines).items()))
+
+
+def outcome_of(stepper):
+    """Returns the outcome of an order that was made: the replies, what is left in the manager, and what else is left."""
+    return replies_of(stepper.script, stepper.lines()[1:]), manager_end(stepper.manager), other_end(stepper)
 
 
 def changes_of(seats):
@@ -199,7 +208,7 @@ def changes_of(seats):
 def orders_of(script, most):
     """Returns how many orders have which outcome, and the fewest changes of seat among these; or None where there are more
     orders than `most`. An outcome is the replies, what is left in the manager, and what else is left."""
-    lengths = collections.Counter(step['seat'] for step in script.steps)
+    lengths = collections.Counter(step['seat'] for step in script.steps if 'if' not in step)
     least = math.factorial(sum(lengths.values())) // math.prod(map(math.factorial, lengths.values()))
     if least > most:
         return None
@@ -222,7 +231,7 @@ def orders_of(script, most):
             ended = Stepper(script)
             for seat in path:
                 ended.makes(seat)
-            outcome = replies_of(ended.lines()[1:], ended.begun), manager_end(ended.manager), other_end(ended)
+            outcome = outcome_of(ended)
             found[outcome] += 1
             fewest[outcome] = min(fewest.get(outcome, len(path)), changes_of(path))
 

@@ -2,9 +2,11 @@
 
 import collections
 
+from conditions_of_steps import heard_in
 from json_texts import compact, read_json
 from running import Runner
 from scripts import read_script
+from small_forms import Shape
 from transcripts import check
 
 
@@ -34,12 +36,12 @@ def raced(text, workers, out):
     words = [l for l in lines[1:] if 'call' not in l]
     if [(w['seat'], w['step']) for w in words] != sorted((w['seat'], w['step']) for w in words):
         return 'word lines out of order'
-    calls = [(s['seat'], s['do']) for s in script.setup] + \
-        [(s['seat'], s['do']) for k, s in enumerate(script.steps) if not any(w['step'] == k for w in words)]
-    for w in words:
-        s = script.steps[w['step']]
-        if (s['seat'], s['do']) != (w['seat'], w['do']):
-            return 'a word line of another step'
+    if [(s['seat'], s['do']) for s in script.setup] != [(e['seat'], e['call']['do']) for e in entries[:len(script.setup)]]:
+        return 'the calls of setup'
+    try:
+        heard_in(script, lines[1:])
+    except Shape:
+        return 'the lines of other steps'
     tokens = collections.defaultdict(list)
     for slot in range(script.slots):
         here = [w for w in words if w.get('slot') == slot]
@@ -60,7 +62,4 @@ def raced(text, workers, out):
         if e['call']['do'] == 'finish_taken' and not any(k[0] == e['seat'] and e['call']['token'] in v for k,
                                                          v in tokens.items()):
             return 'a token from nowhere in entry %d' % e['n']
-    for seat in range(script.seats):
-        if [d for k, d in calls if k == seat] != [e['call']['do'] for e in entries if e['seat'] == seat]:
-            return 'the calls of seat %d' % seat
     return None

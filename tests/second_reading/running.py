@@ -1,5 +1,6 @@
 """Runs a script step by step, as one worker does, and writes its transcript (docs/FORMATS.md, How a script is run)."""
 
+from conditions_of_steps import holds
 from json_texts import compact
 from locks_and_slots import CancelSlots, Locks
 from manager import Manager, Slab, Tables
@@ -52,6 +53,8 @@ class Runner:
         self.labels = {}
         self.entries = []
         self.words = []
+        # What the steps were answered, under their places.
+        self.heard = {}
 
     def word(self, step, place, reply):
         """Notes the word line of a step on a remove lock or a cancel slot."""
@@ -59,9 +62,12 @@ class Runner:
         if step['do'] == 'finish_taken':
             keys = ['do', 'seat', 'slot']
         self.words.append(dict({k: step[k] for k in keys}, reply=reply, step=place))
+        self.heard[place] = reply
 
     def step(self, step, place=None):
-        """Makes a step; place is None in setup."""
+        """Makes a step, unless its condition fails; place is None in setup."""
+        if not holds(step, self.heard):
+            return None
         do, seat = step['do'], step['seat']
         if do in LOCK_STEPS:
             args = [step['lock']] + ([step['tag']] if 'tag' in step else [])
@@ -77,7 +83,7 @@ class Runner:
             if type(reply) is dict:
                 self.tokens[seat, step['slot']] = reply['taken']
             return self.word(step, place, reply)
-        call = {k: v for k, v in step.items() if k not in ('seat', 'as', 'slot')}
+        call = {k: v for k, v in step.items() if k not in ('seat', 'as', 'slot', 'if')}
         if irp is not None:
             call['irp'] = list(irp)
         if do == 'finish_taken':
@@ -85,6 +91,7 @@ class Runner:
                 return self.word(step, place, 'no_token')
             call['token'] = self.tokens[seat, step['slot']]
         reply = self.call(seat, call, lambda lock: lock in self.locks.known[seat])
+        self.heard[place] = reply
         if do == 'finish_taken' and reply == 'done':
             del self.tokens[seat, step['slot']]
         if type(reply) is dict and 'irp' in reply:
@@ -106,9 +113,9 @@ class Runner:
         t = self.manager.tables
         h = {'cancels': t.cancels, 'completions': [t.counts[r] for r in RULES],
              'dispatches': [[k[r] for r in RULES + ('cancel',)] for k in t.known],
-             'drivers': [sorted([m, d] for m, d in table.items()) for table in t.drivers], 'form': self.script.form,
+             'drivers': [sorted([m, d] for m, d in table.items()) for table in t.drivers], 'form': min(self.script.form, 2),
              'locks': self.script.locks, 'seats': self.script.seats}
-        if self.script.form == 2:
+        if self.script.form != 1:
             h['slots'] = self.script.slots
         return h
 

@@ -2,8 +2,9 @@
 
 import re
 
+from conditions_of_steps import condition, names_earlier
 from json_texts import NotJson, read_json
-from small_forms import (FORMS, RULES, Shape, cancel_answer, completable, list_of, need, object_of, or_null, pair,
+from small_forms import (RULES, Shape, cancel_answer, completable, list_of, need, object_of, or_null, pair,
                          party, plan, rule, setting, tagged, tuple_of, u32, u64, u8)
 
 CALLS = {
@@ -28,6 +29,8 @@ LOCK_STEPS = {
 }
 HAND = {'lock': u32, 'tag': u32, 'to': u32}
 FINISH_TAKEN = {'irp': pair, 'slot': u32, 'status': u32, 'information': u64}
+# The forms of scripts that are read. `compare` leaves out form 3 where the program refuses it.
+FORMS = [1, 2, 3]
 _LABEL = re.compile(r'[A-Za-z0-9_]{1,32}\Z', re.ASCII)
 
 
@@ -52,7 +55,7 @@ def step_keys(do, form, setup):
         return None
     elif do in LOCK_STEPS:
         return LOCK_STEPS[do]
-    elif form != 2:
+    elif form == 1:
         return None
     else:
         new = {'hand': HAND, 'publish': {'slot': u32, 'irp': pair}, 'withdraw': {'slot': u32},
@@ -112,7 +115,7 @@ def read_script(text, workers=1):
     s = Script()
     s.form = top['form']
     keys = {'form', 'seats', 'locks', 'completions', 'cancels', 'dispatches', 'drivers', 'setup', 'steps'}
-    if s.form == 2:
+    if s.form != 1:
         keys.add('slots')
     if set(top) != keys:
         raise Refused('S4 top 0')
@@ -167,7 +170,7 @@ def read_script(text, workers=1):
         s.drivers.append(sorted(table))
     labels = set()
 
-    def read_step(setup):
+    def read_step(setup, before):
         def form(v):
             need(type(v) is dict and 'do' in v and type(v['do']) is str)
             reads = step_keys(v['do'], s.form, setup)
@@ -175,8 +178,12 @@ def read_script(text, workers=1):
             reads = dict(reads)
             reads['seat'] = u32
             reads['do'] = lambda x: x
+            if 'if' in v and s.form == 3 and not setup:
+                reads['if'] = condition
             step = object_of(v, reads)
             need(step['seat'] < s.seats)
+            if 'if' in step:
+                names_earlier(step['if'], step['seat'], before)
             if step['do'] == 'hand':
                 need(step['to'] < s.seats and step['to'] != step['seat'])
             if step['do'] in ('publish', 'withdraw'):
@@ -187,7 +194,7 @@ def read_script(text, workers=1):
     for section in ('setup', 'steps'):
         steps = []
         for i, v in members(section):
-            step = read(section, i, read_step(section == 'setup'), v)
+            step = read(section, i, read_step(section == 'setup', steps), v)
             name = step.get('as', step.get('irp'))
             if type(name) is str and name not in labels:
                 judge('S8', section, i, len(labels) < 4096)

@@ -5,6 +5,7 @@ Each form is a function that takes a value and answers it, or raises Shape where
 
 from json_texts import U32, U64
 
+# The forms of transcripts. A script of form 3 leaves a transcript of form 2.
 FORMS = (1, 2)
 
 
@@ -85,10 +86,10 @@ def tagged(v, table):
 
 
 def plan(form):
-    """Returns the form of a plan of a dispatch, in form 1 or 2."""
+    """Returns the form of a plan of a dispatch, in form 1, or in a later one."""
     table = {'finish': (u32, u64), 'hold': (or_null(u32),), 'skip': (), 'forward': (or_null(setting),),
              'forward_pend': (or_null(setting),)}
-    if form == 2:
+    if form != 1:
         table['hold_slot'] = ()
     return lambda v: tagged(v, table)
 

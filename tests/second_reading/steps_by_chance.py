@@ -93,7 +93,7 @@ class Chooser:
             made = self.of_packet()
         elif x < 0.78:
             made = self.of_lock()
-        elif x < 0.92 and self.s.form == 2:
+        elif x < 0.92 and self.s.form != 1:
             made = self.of_slot()
         elif x < 0.96:
             made = self.of_devices()
@@ -218,7 +218,7 @@ class Chooser:
         """Returns a step on a remove lock."""
         rng, locks = self.rng, self.r.locks
         kind = rng.choice(['acquire', 'acquire', 'release', 'begin_remove', 'drained', 'drained'] +
-                          (['hand', 'hand'] if self.s.form == 2 and len(self.seats) > 1 else []))
+                          (['hand', 'hand'] if self.s.form != 1 and len(self.seats) > 1 else []))
         seat = self.seat()
         lock = rng.randrange(self.m.locks) if rng.random() < .95 else rng.choice([self.m.locks, 64, U32])
         made = {'do': kind, 'seat': seat, 'lock': lock}

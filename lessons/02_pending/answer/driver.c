@@ -1,4 +1,9 @@
-/* A device that answers reads from a work item. */
+/* A device that answers reads from a work item.
+ *
+ * Why. IoMarkIrpPending sets the mark that STATUS_PENDING promises, and the I/O manager reads the mark. It comes
+ * before IoQueueWorkItem, because the work item may complete the packet before that call returns: then the mark is
+ * too late, and writes to a packet that has ended. It comes behind the allocation: a packet that the dispatch
+ * completes at once, with STATUS_INSUFFICIENT_RESOURCES, isn't pending. */
 #include <wdm.h>
 
 static VOID AnswerLater(PDEVICE_OBJECT DeviceObject, PVOID Context)

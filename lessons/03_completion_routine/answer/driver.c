@@ -1,4 +1,8 @@
-/* A filter that counts the bytes that were read. */
+/* A filter that counts the bytes that were read.
+ *
+ * Why. Where no routine is set, the I/O manager copies the mark of the location below into the one above. Once a
+ * routine is asked, that is the routine's work: it marks if PendingReturned is set. The dispatch hands the lower
+ * driver's answer up, so the mark has to say the same. A routine that finds PendingReturned FALSE doesn't mark. */
 #include <wdm.h>
 
 typedef struct { PDEVICE_OBJECT Lower; } EXTENSION, *PEXTENSION;

@@ -1,4 +1,9 @@
-/* A driver that starts its device once all below it have started. */
+/* A driver that starts its device once all below it have started.
+ *
+ * Why. With STATUS_SUCCESS the way up goes on: the packet ends, and the dispatch then completes it a second time.
+ * With STATUS_MORE_PROCESSING_REQUIRED the way up stops at your routine and the packet is yours again, until you
+ * complete it. The routine doesn't mark, since the dispatch answers with the final status and not with
+ * STATUS_PENDING. */
 #include <wdm.h>
 
 typedef struct { PDEVICE_OBJECT Lower; BOOLEAN IsStarted; } EXTENSION, *PEXTENSION;

@@ -1,4 +1,8 @@
-/* A filter that is removed only once all reads have come back. */
+/* A filter that is removed only once all reads have come back.
+ *
+ * Why. Each IoAcquireRemoveLock needs one IoReleaseRemoveLock, on each way that the packet can take. A read that
+ * fails comes back by the routine, too, and must give its reference back there. On Windows
+ * IoReleaseRemoveLockAndWait would never return, and with it the removal. */
 #include <wdm.h>
 
 typedef struct { PDEVICE_OBJECT Lower; IO_REMOVE_LOCK RemoveLock; } EXTENSION, *PEXTENSION;

@@ -1,4 +1,8 @@
-/* A device that holds one read until it is cancelled, or until the next request comes. Its requests meet on threads. */
+/* A device that holds one read until it is cancelled, or until the next request comes. Its requests meet on threads.
+ *
+ * Why. IoSetCancelRoutine(irp, NULL) tells who has the packet, and the mistake drops its answer. If the cancel came
+ * between setting the routine and taking it out, the answer is NULL: the routine runs, and completes the packet.
+ * Whoever completes it too completes it twice. */
 #include <wdm.h>
 
 static KSPIN_LOCK Lock;
