@@ -9,7 +9,8 @@ use crate::written::Written;
 use irp_forms::{HasName, under};
 use irp_names::{major_name, status_name};
 use irp_script_reader::{
-    Behaviour, CompletionRoutine, Condition, ExpectedAnswer, ScriptFault, ScriptForm, ScriptParts, Step, read_script,
+    Behaviour, CompletionRoutine, Condition, ExpectedAnswer, ScriptFault, ScriptForm, ScriptParts,
+    Step, read_script,
 };
 use irp_types::{
     CancelAnswer, CancelId, DispatchId, IrpRef, Known, Party, Plan, Row, Setting, Status,
@@ -273,7 +274,13 @@ fn put_step(text: &mut Written, step: &Value, place: usize, steps: &[Step], coun
         text.put(": ");
     }
     put_numbered(text, "seat ", number_under("seat", step));
-    if let Some(Step { condition: Some(condition), .. }) = steps.get(place) {
+    if let Some(
+        Step {
+            condition: Some(condition),
+            ..
+        },
+    ) = steps.get(place)
+    {
         put_condition(text, *condition, counts.known);
     }
     put_word(text, act.word());
