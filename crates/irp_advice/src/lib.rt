@@ -2,6 +2,7 @@
 //! script that is taken is hardly meant.
 #![tactic(auto)]
 
+mod conditions;
 mod fault;
 mod held;
 mod keys;

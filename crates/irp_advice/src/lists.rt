@@ -76,10 +76,10 @@ const DISPATCH: Field = Field {
 
 /// What the name of a value may be, and how that is told.
 #[derive(Clone, Copy)]
-struct Choice {
-    shown: &'static str,
-    names: &'static [&'static str],
-    words: &'static str,
+pub struct Choice {
+    pub shown: &'static str,
+    pub names: &'static [&'static str],
+    pub words: &'static str,
 }
 
 const RULE: Choice = Choice {
@@ -91,7 +91,7 @@ const RULE: Choice = Choice {
 const PLAN: Choice = Choice {
     shown: "the plan",
     names: PLANS,
-    words: "a plan is \"finish\", \"hold\", \"skip\", \"forward\" or \"forward_pend\", in form 2 \"hold_slot\"",
+    words: "a plan is \"finish\", \"hold\", \"skip\", \"forward\" or \"forward_pend\", in forms 2 and 3 \"hold_slot\"",
 };
 
 const ANSWER: Choice = Choice {
@@ -121,7 +121,7 @@ fn check_name(found: &mut Finding, node: Node, choice: Choice) -> bool {
 }
 
 /// Whether a list has this length.
-fn check_count(found: &mut Finding, node: Node, count: usize, words: &'static str) -> bool {
+pub fn check_count(found: &mut Finding, node: Node, count: usize, words: &'static str) -> bool {
     match node.count() {
         Some(there) if there == count => true,
         Some(there) => {
@@ -134,7 +134,7 @@ fn check_count(found: &mut Finding, node: Node, count: usize, words: &'static st
 }
 
 /// Whether the first word of a list is one of these.
-fn check_first(found: &mut Finding, node: Node, choice: Choice) -> bool {
+pub fn check_first(found: &mut Finding, node: Node, choice: Choice) -> bool {
     match node.nth(0) {
         Some(first) => check_name(found, first, choice),
         None => found.not_taken("this", node, choice.words),
@@ -429,7 +429,7 @@ pub fn check_plan(found: &mut Finding, around: Around, node: Node) -> bool {
     } else if word == b"forward_pend".as_slice() {
         check_forward(found, around, node, true)
     } else if word == b"hold_slot".as_slice() && around.form == 1 {
-        let words = "only a script of form 2 has it; here \"form\" is 1";
+        let words = "a script of form 1 doesn't have it";
         found.not_taken("the plan", node, words)
     } else {
         check_count(found, node, 1, "nothing follows it")

@@ -1,8 +1,9 @@
 //! What the steps of a script have made, as far as its text tells, and what isn't meant in one.
 
+use crate::conditions::may_be_answered;
 use crate::held::References;
 use crate::stacks::Stacks;
-use irp_script_reader::{Named, ScriptForm, ScriptParts, Step, StepAct};
+use irp_script_reader::{Condition, Named, ScriptForm, ScriptParts, Step, StepAct};
 use irp_types::{Call, CancelId, DeviceId, Hand, LockAct, LockNo, Party, Rule, Setting};
 use std::alloc::{AllocError, Global};
 
@@ -58,6 +59,10 @@ pub enum Concern {
     NotHeld {
         seat: u32,
         lock: LockNo,
+    },
+    /// The step that it hangs on is never answered so.
+    NeverAnswered {
+        step: u32,
     },
 }
 
@@ -222,12 +227,24 @@ impl Made {
         }
     }
 
-    /// What isn't meant in a step, if anything, and what it makes. The one error is want of memory.
+    /// What isn't meant in a step, if anything, and what it makes: a step that hangs on another's answer may be passed
+    /// over, so of what it does nothing is told, and it gives nothing back. The one error is want of memory.
     pub fn step(
         &mut self,
         script: &ScriptParts,
         step: &Step,
     ) -> Result<Option<Concern>, AllocError> {
+        let Some(condition) = step.condition else {
+            return self.made(script, step);
+        };
+        if !gives_back(step.act) {
+            self.made(script, step)?;
+        }
+        Ok(never_answered(script, condition))
+    }
+
+    /// What isn't meant in a step that is made, if anything, and what it makes. The one error is want of memory.
+    fn made(&mut self, script: &ScriptParts, step: &Step) -> Result<Option<Concern>, AllocError> {
         match step.act {
             StepAct::Call(call) => match self.on_devices(script, call)? {
                 Some(concern) => Ok(Some(concern)),
@@ -243,6 +260,23 @@ impl Made {
             StepAct::Withdraw { .. } | StepAct::Request { .. } => Ok(None),
         }
     }
+}
+
+/// Whether a step gives something back, which a later one can't give back then.
+fn gives_back(act: StepAct) -> bool {
+    matches!(
+        act,
+        StepAct::OnLock(LockAct::Release { .. } | LockAct::BeginRemove { .. })
+            | StepAct::Hand(_)
+            | StepAct::Call(Call::Detach { .. } | Call::Delete { .. })
+    )
+}
+
+/// The step that a condition names is never answered so.
+fn never_answered(script: &ScriptParts, condition: Condition) -> Option<Concern> {
+    let step = condition.step;
+    let named = script.steps.as_slice().get(step as usize)?;
+    (!may_be_answered(named.act, condition.answer)).then_some(Concern::NeverAnswered { step })
 }
 
 /// The packet that a call is on.

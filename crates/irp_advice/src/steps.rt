@@ -1,5 +1,6 @@
 //! What is wrong with a step. Source: this project's own format (docs/FORMATS.md).
 
+use crate::conditions::check_condition;
 use crate::keys::{ACTS, Act, Place, act_of, field_of};
 use crate::lists::{Around, check_setting};
 use crate::near::edits;
@@ -126,12 +127,16 @@ fn is_key(key: Node, keys: &[&'static str]) -> bool {
     false
 }
 
-/// The first key of an object that is none of these.
-fn other_key<'t>(node: Node<'t>, keys: &[&'static str]) -> Option<Node<'t>> {
+/// The first key of an object that is none of these, and none that may stand beside them.
+fn other_key<'t>(
+    node: Node<'t>,
+    keys: &[&'static str],
+    beside: &[&'static str],
+) -> Option<Node<'t>> {
     let mut next = node.first();
     for _ in 0..node.tokens.len() {
         let key = next?;
-        if !is_key(key, keys) {
+        if !is_key(key, keys) && !is_key(key, beside) {
             return Some(key);
         }
         next = key.value().next();
@@ -146,7 +151,18 @@ pub fn check_keys(
     what: &'static str,
     keys: &'static [&'static str],
 ) -> bool {
-    if let Some(key) = other_key(node, keys) {
+    check_keys_beside(found, node, what, keys, &[])
+}
+
+/// The same where others may stand beside them.
+fn check_keys_beside(
+    found: &mut Finding,
+    node: Node,
+    what: &'static str,
+    keys: &'static [&'static str],
+    beside: &[&'static str],
+) -> bool {
+    if let Some(key) = other_key(node, keys, beside) {
         return unknown(found, node, key, what, keys);
     }
     for key in keys {
@@ -176,7 +192,7 @@ fn check_values(found: &mut Finding, node: Node, keys: &[&'static str]) -> bool 
 fn check_place(found: &mut Finding, around: Around, in_setup: bool, node: Node, act: Act) -> bool {
     let name = node.get("do").unwrap_or(node);
     if act.place == Place::FormTwo && around.form == 1 {
-        found.not_taken("\"do\"", name, "only form 2 has this step");
+        found.not_taken("\"do\"", name, "form 1 doesn't have this step");
         return found.remedy(Remedy::Do("Write \"form\":2 and the number of \"slots\""));
     }
     if act.place != Place::Anywhere && in_setup {
@@ -258,8 +274,9 @@ pub fn check_step(found: &mut Finding, around: Around, in_setup: bool, node: Nod
     match act_in(found, node) {
         Some(act) => {
             check_place(found, around, in_setup, node, act)
-                && check_keys(found, node, act.shown, act.keys)
+                && check_keys_beside(found, node, act.shown, act.keys, &["if"])
                 && check_values(found, node, act.keys)
+                && check_condition(found, around, in_setup, node)
                 && check_seat(found, around, node.get("seat"))
                 && check_named(found, around, node, act)
         }

@@ -21,7 +21,7 @@ static KEYS: &[&str] = &[
     "steps",
 ];
 
-/// The keys of a script of form 2.
+/// The keys of a script of form 2 or 3.
 static KEYS_OF_TWO: &[&str] = &[
     "form",
     "seats",
@@ -52,13 +52,15 @@ pub fn tell_form(found: &mut Finding, whole: Node) -> bool {
         return found.not_taken("this", whole, "a script is an object, {\"form\":1, ..}");
     }
     let Some(form) = whole.get("form") else {
-        let words = "the key \"form\" is missing; it is 1, or 2 for a script with cancel slots";
+        let words =
+            "the key \"form\" is missing; it is 1, 2 for a script with cancel slots, or 3 for steps with \"if\"";
         return found.wrong(whole, &[Say(words)]);
     };
-    found.not_taken("\"form\"", form, "it is the number 1 or 2");
+    found.not_taken("\"form\"", form, "it is the number 1, 2 or 3");
     match form.raw() {
         b"\"1\"" | b"1.0" => found.remedy(Remedy::Number(1)),
         b"\"2\"" | b"2.0" => found.remedy(Remedy::Number(2)),
+        b"\"3\"" | b"3.0" => found.remedy(Remedy::Number(3)),
         _ => false,
     }
 }
@@ -68,8 +70,11 @@ pub fn check_top(found: &mut Finding, around: Around) -> bool {
     if around.form == 2 {
         return check_keys(found, around.whole, "a script of form 2", KEYS_OF_TWO);
     }
+    if around.form == 3 {
+        return check_keys(found, around.whole, "a script of form 3", KEYS_OF_TWO);
+    }
     if let Some(slots) = around.whole.get("slots") {
-        found.wrong(slots, &[Say("\"slots\" is a key of form 2 alone")]);
+        found.wrong(slots, &[Say("\"slots\" is no key of form 1")]);
         return found.remedy(Remedy::Do("Write \"form\":2"));
     }
     check_keys(found, around.whole, "a script of form 1", KEYS)

@@ -57,6 +57,7 @@ fn key_of_concern(concern: Concern) -> &'static str {
         Concern::TooShort { .. } | Concern::NoLower { .. } => "target",
         Concern::Attached => "device",
         Concern::NotHeld { .. } => "tag",
+        Concern::NeverAnswered { .. } => "if",
     }
 }
 
@@ -162,6 +163,10 @@ fn tell(found: &mut Finding, node: Node, concern: Concern) -> bool {
             found.wrong(node, &[Say("device "), Show(node.span()), words])
         }
         Concern::NotHeld { seat, lock } => tell_not_held(found, node, seat, lock),
+        Concern::NeverAnswered { step } => {
+            let (words, number) = ("no answer of step ", Number(u64::from(step)));
+            found.wrong(node, &[Say(words), number, Say(" is ever this")])
+        }
     }
 }
 
@@ -218,8 +223,9 @@ fn add_warnings(
 /// What of a script that is taken is hardly meant, in the order of its steps, a hundred at most: a plan that passes a
 /// packet down at a device that has none below; a label that no allocate binds before; a routine that isn't there; a
 /// reference to a remove lock that is given back more often than its seat acquires it; a packet with fewer locations
-/// than the stack has devices that it is sent to; a device that is deleted before it is detached. The script is the one
-/// that was read from the text. Each is told as far as the text alone shows it.
+/// than the stack has devices that it is sent to; a device that is deleted before it is detached; a condition on an
+/// answer that its step never gives. The script is the one that was read from the text. Each is told as far as the text
+/// alone shows it, and of what a step with a condition does nothing.
 ///
 /// # Errors
 ///

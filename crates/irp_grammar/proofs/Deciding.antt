@@ -1,8 +1,9 @@
 -- The derived tests of equality of what a script has decide it: each is true exactly where its two values are equal.
-use Rattle.std.proofs.Common.{Bool, ℕ, ◌≡◌}
+use Rattle.std.proofs.Common.{rules, Bool, ℕ, ◌≡◌}
 use Rattle.std.specs.Bool.{Decides}
-use Rattle.std.specs.Cmp.{unsigned_Decides}
-use Rattle.irp_types.proofs.Deciding.{also, cancel, device, driver, empty, end, fields, irp, last, lock, option, or, rule}
+use Rattle.std.specs.Cmp.{booleans_Decides, unsigned_Decides}
+use Rattle.irp_types.proofs.Deciding.{also, cancel, device, driver, empty, end, fields, irp, last, lock, option, or}
+use Rattle.irp_types.proofs.Deciding.{refusal, rule}
 use Rattle.irp_types.proofs.Deciding.{setting, status, variants}
 use Rattle.std.specs.contracts.prelude.U32PartialEq.TheImpl as u32_eq
 use denote.Builtin.{u32}
@@ -28,6 +29,11 @@ use Rattle.irp_script_reader.specs.contracts.act.StepAct as a_step_act
 use Rattle.irp_script_reader.specs.contracts.act.StepActPartialEq.TheImpl as step_act_eq
 use Rattle.irp_script_reader.specs.contracts.act.Step as a_step
 use Rattle.irp_script_reader.specs.contracts.act.StepPartialEq.TheImpl as step_eq
+use Rattle.irp_script_reader.specs.contracts.condition.AnswerWordPartialEq.TheImpl as answer_word_eq
+use Rattle.irp_script_reader.specs.contracts.condition.ExpectedAnswer as an_expected_answer
+use Rattle.irp_script_reader.specs.contracts.condition.ExpectedAnswerPartialEq.TheImpl as expected_answer_eq
+use Rattle.irp_script_reader.specs.contracts.condition.Condition as a_condition
+use Rattle.irp_script_reader.specs.contracts.condition.ConditionPartialEq.TheImpl as condition_eq
 use Rattle.irp_script_reader.specs.contracts.script.Behaviour as a_behaviour
 use Rattle.irp_script_reader.specs.contracts.script.BehaviourPartialEq.TheImpl as behaviour_eq
 use Rattle.irp_script_reader.specs.contracts.script.CompletionRoutine as a_completion
@@ -51,7 +57,7 @@ pub completion : Tells completion_eq.eq-value.it
 completion = fields a_completion.struct a_completion.the_propositions (also rule (also behaviour (last behaviour)))
 
 pub form : Tells form_eq.eq-value.it
-form = variants a_form.enum (or empty (or (last unsigned_Decides) end))
+form = variants a_form.enum (or empty (or (last unsigned_Decides) (or (last unsigned_Decides) end)))
 
 pub cancel_answer : Tells cancel_answer_eq.eq-value.it
 cancel_answer = variants a_cancel_answer.enum (or (last unsigned_Decides) (or empty end))
@@ -101,5 +107,20 @@ step_act =
     (or (last call) (or (also unsigned_Decides (last unsigned_Decides)) (or (last lock_act) (or (last hand)
     (or (also unsigned_Decides (last named)) (or (last unsigned_Decides) (or (last unsigned_Decides) end)))))))
 
+answer_word : Tells answer_word_eq.eq-value.it
+answer_word one other = search rules
+
+expected_answer : Tells expected_answer_eq.eq-value.it
+expected_answer =
+    variants an_expected_answer.enum
+    (or empty (or (last refusal) (or empty (or (last status) (or empty (or (last (option cancel))
+    (or (last booleans_Decides) (or empty (or (last answer_word) end)))))))))
+
+condition : Tells condition_eq.eq-value.it
+condition =
+    fields a_condition.struct a_condition.the_propositions
+    (also unsigned_Decides (also booleans_Decides (last expected_answer)))
+
 pub step : Tells step_eq.eq-value.it
-step = fields a_step.struct a_step.the_propositions (also unsigned_Decides (last step_act))
+step =
+    fields a_step.struct a_step.the_propositions (also unsigned_Decides (also step_act (last (option condition))))

@@ -1,5 +1,6 @@
 -- The script that lines say, and what is told of it.
-use Rattle.std.specs.Prelude.{◌≡◌, ◌==◌, ℕ, List, [], map, Option, Some, None, Ok, if◌then◌else◌, string_bytes}
+use Rattle.std.specs.Prelude.{◌≡◌, ◌==◌, ℕ, Bool, true, false, List, [], map, any, Option, Some, None, is_some, Ok}
+use Rattle.std.specs.Prelude.{if◌then◌else◌, string_bytes}
 use Rattle.std.specs.Option.{unwrap_or}
 use Rattle.irp_types.specs.declared.call.Call.{Call}
 use Rattle.irp_types.specs.declared.call.Call.TheVariants as call
@@ -14,15 +15,26 @@ use Rattle.irp_grammar.specs.declared.{cursor.WordsFault.WordsFault, law.Told.To
 use Rattle.irp_grammar.specs.declared.act.Act.TheVariants as word
 use Rattle.irp_grammar.specs.declared.law.Untold.TheVariants as untold
 
--- the form's number: as the lines say; else 2 where they have slots, and 1 where they have none
-abbrev pub form_number : Option ℕ → Option ℕ → ℕ
-form_number (Some form) slots = form
-form_number None (Some slots) = 2
-form_number None None = 1
+-- a step hangs on anything
+abbrev pub have_conditions : List StepLine → Bool
+have_conditions lines = any (λ line. is_some line.condition) lines
+
+-- the form's number: as the lines say; else 3 where a step hangs on anything, 2 where they have slots, and 1 where they
+-- have neither
+abbrev pub form_number : Option ℕ → Option ℕ → Bool → ℕ
+form_number (Some form) slots hangs = form
+form_number None slots true = 3
+form_number None (Some slots) false = 2
+form_number None None false = 1
+
+-- the form of this number, with so many slots where it has these
+abbrev pub form_numbered : ℕ → ℕ → ScriptForm
+form_numbered number slots =
+    if number == 3 then forms.Three slots else (if number == 2 then forms.Two slots else forms.One)
 
 -- the form, with its slots where it has these: none where the lines say nothing of them
-abbrev pub form_of : Option ℕ → Option ℕ → ScriptForm
-form_of form slots = if form_number form slots == 2 then forms.Two (unwrap_or slots 0) else forms.One
+abbrev pub form_of : Option ℕ → Option ℕ → Bool → ScriptForm
+form_of form slots hangs = form_numbered (form_number form slots hangs) (unwrap_or slots 0)
 
 -- the call that a party makes on a packet's content, by the word of a step with the values of its keys; none by others
 abbrev pub party_call : Act → Values → Option (Call Named ℕ)
@@ -68,12 +80,12 @@ step_of line =
     record {
       seat = line.seat;
       act = act_of (party_call line.act line.values) (other_act line.act line.values);
-      condition = None;
+      condition = line.condition;
     }
 
 -- the script is what the lines say, member by member in order; one seat and one lock where they say nothing of them
 pub record Says (said : Said) (script : ScriptParts) : Type 0 where
-  pub form : script.form ≡ form_of said.form said.slots
+  pub form : script.form ≡ form_of said.form said.slots (have_conditions said.steps.items)
   pub seats : script.seats ≡ unwrap_or said.seats 1
   pub locks : script.locks ≡ unwrap_or said.locks 1
   pub completions : script.completions ≡ said.completions.items

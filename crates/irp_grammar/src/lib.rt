@@ -2,6 +2,7 @@
 #![tactic(auto)]
 
 mod act;
+mod condition;
 mod cursor;
 mod law;
 mod members;

@@ -254,7 +254,12 @@ pub fn count_of(length: usize) -> u32 {
 
 impl<'a> Said<'a> {
     /// Gives the name before a colon, if the line begins with one, to this number.
-    fn take_name(&mut self, kind: Kind, number: usize, words: &mut Cursor<'a, '_>) -> Option<()> {
+    pub fn take_name(
+        &mut self,
+        kind: Kind,
+        number: usize,
+        words: &mut Cursor<'a, '_>,
+    ) -> Option<()> {
         if let Some(text) = name_before(words) {
             self.name(kind, text, count_of(number), words)?;
             words.pass();

@@ -15,6 +15,7 @@ pub enum Kind {
     Lock,
     Slot,
     Seat,
+    Step,
 }
 
 /// A name and what it stands for.

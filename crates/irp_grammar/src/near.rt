@@ -1,6 +1,7 @@
 //! What may be meant by a word.
 
 use crate::act::ACTS;
+use crate::condition::ANSWERS;
 use crate::names::{Kind, Names};
 use crate::numbers::{MINORS, STATUSES};
 use crate::wanted::Wanted;
@@ -47,7 +48,9 @@ fn words_at(wanted: Wanted) -> (&'static [&'static str], bool) {
         Wanted::Plan => (PLANS, true),
         Wanted::Party => (&["originator"], false),
         Wanted::Cancel => (&["none"], false),
-        Wanted::Act => (&["seat", "stack"], true),
+        Wanted::Act => (&["seat", "stack", "if"], true),
+        Wanted::Is => (&["is"], false),
+        Wanted::Answer => (&["routine", "not"], false),
         Wanted::StackLock => (&["lock"], false),
         _ => (&[], false),
     }
@@ -73,9 +76,19 @@ fn name_at(wanted: Wanted, number: u8) -> Option<&'static str> {
         Wanted::Major => major_name(number),
         Wanted::Minor => Some(MINORS.get(place)?.2),
         Wanted::Act => Some(ACTS.get(place)?.word()),
+        Wanted::Answer => answer_at(place),
         Wanted::Key(act) => Some(act.keys().get(place)?.word()),
         _ => None,
     }
+}
+
+/// The word with this number, from 0, of those of answers: those that have no value, and statuses.
+fn answer_at(place: usize) -> Option<&'static str> {
+    if let Some((word, _)) = ANSWERS.get(place) {
+        return Some(*word);
+    }
+    let place = place.saturating_sub(ANSWERS.len());
+    status_name(Status(*STATUSES.get(place)?))
 }
 
 /// Appends the names that may stand where this was expected.

@@ -1,14 +1,14 @@
 //! What the lines of a text say, as far as they were read.
 
 ghost use Rattle.std.specs.Prelude.{◌≡◌};
-ghost use Rattle.irp_grammar.specs.Saying.{form_number};
+ghost use Rattle.irp_grammar.specs.Saying.{form_number, have_conditions};
 
 use crate::cursor::{Cursor, WordsFault};
 use crate::names::{Kind, Name, Names, is_name};
 use crate::near::hint;
 use crate::step_line::StepLine;
 use crate::wanted::{StepFault, Wanted};
-use irp_script_reader::{CompletionRoutine, ScriptRefusal, Section, StepAct};
+use irp_script_reader::{CompletionRoutine, Condition, ScriptRefusal, Section, StepAct};
 use irp_types::{CancelAnswer, DispatchId, Known, Plan, Row, Rule};
 use std::alloc::{AllocError, Global};
 
@@ -68,12 +68,21 @@ impl<'a> Said<'a> {
         }
     }
 
-    /// The form: as the text says; else 2 where it has slots, and 1 where it has none.
+    /// Whether a step of `steps` hangs on anything.
+    fn have_conditions(&self) -> bool
+        ensures { result ≡ have_conditions self.now.steps.items }
+    {
+        self.steps.iter().any(|line| line.condition.is_some())
+    }
+
+    /// The form: as the text says; else 3 where a step hangs on anything, 2 where it has slots, and 1 where it has
+    /// neither.
     pub fn form_number(&self) -> u32
-        ensures { result ≡ form_number self.now.form self.now.slots }
+        ensures { result ≡ form_number self.now.form self.now.slots (have_conditions self.now.steps.items) }
     {
         match (self.form, self.slots) {
             (Some(form), _) => form,
+            (None, _) if self.have_conditions() => 3,
             (None, Some(_)) => 2,
             (None, None) => 1,
         }
@@ -176,6 +185,15 @@ impl<'a> Said<'a> {
         }
     }
 
+    /// Whether the condition of a step of `steps` with this index names one above, which is one of this seat.
+    fn names_earlier(&self, index: usize, seat: u32, condition: Condition) -> bool {
+        let place = condition.step as usize;
+        match self.steps.get(place) {
+            Some(step) => place < index && step.seat == seat,
+            None => false,
+        }
+    }
+
     /// Why the step of a section with this index isn't taken; none where it isn't one that this tells of.
     fn step_fault(&self, section: Section, index: usize) -> Option<StepFault> {
         let line = match section {
@@ -187,8 +205,16 @@ impl<'a> Said<'a> {
         if line.seat >= self.seats.unwrap_or(1) {
             return Some(StepFault::Seat);
         }
-        if section == Section::Setup && !act.suits_setup() {
+        if section == Section::Setup && !(act.suits_setup() && line.condition.is_none()) {
             return Some(StepFault::Setup);
+        }
+        if let Some(condition) = line.condition {
+            if self.form_number() != 3 {
+                return Some(StepFault::FormThree);
+            }
+            if !self.names_earlier(index, line.seat, condition) {
+                return Some(StepFault::Condition);
+            }
         }
         match act {
             _ if self.form_number() == 1 => Some(StepFault::Form),

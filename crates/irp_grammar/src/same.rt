@@ -1,7 +1,7 @@
 //! Whether a script is what lines say.
 
 ghost use Rattle.std.specs.Prelude.{◌≡◌, ◌↔◌, map, true};
-ghost use Rattle.irp_grammar.specs.Saying.{Says, form_of, step_of};
+ghost use Rattle.irp_grammar.specs.Saying.{Says, form_of, have_conditions, step_of};
 
 use crate::said::Said;
 use crate::step_line::StepLine;
@@ -82,14 +82,13 @@ fn are_steps(lines: &[StepLine], steps: &[Step]) -> bool
 
 /// The form that lines say.
 fn form_said(said: &Said<'_>) -> ScriptForm
-    ensures { result ≡ form_of said.now.form said.now.slots }
+    ensures { result ≡ form_of said.now.form said.now.slots (have_conditions said.now.steps.items) }
 {
-    if said.form_number() == 2 {
-        ScriptForm::Two {
-            slots: said.slots.unwrap_or(0),
-        }
-    } else {
-        ScriptForm::One
+    let slots = said.slots.unwrap_or(0);
+    match said.form_number() {
+        3 => ScriptForm::Three { slots },
+        2 => ScriptForm::Two { slots },
+        _ => ScriptForm::One,
     }
 }
 

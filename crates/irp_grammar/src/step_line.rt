@@ -4,7 +4,7 @@ ghost use Rattle.std.specs.Prelude.{◌≡◌};
 ghost use Rattle.irp_grammar.specs.Saying.{other_act, party_call, step_of};
 
 use crate::act::Act;
-use irp_script_reader::{Named, Step, StepAct};
+use irp_script_reader::{Condition, Named, Step, StepAct};
 use irp_types::{
     Call, CancelId, DeviceId, DriverId, Hand, LockAct, LockNo, Party, RoutineId, Rule, Setting,
     Status,
@@ -68,12 +68,13 @@ impl Values {
     };
 }
 
-/// A step: its seat, its word and the values of its keys.
+/// A step: its seat, its word, the values of its keys, and what it hangs on.
 #[derive(Clone, Copy)]
 pub struct StepLine {
     pub seat: u32,
     pub act: Act,
     pub values: Values,
+    pub condition: Option<Condition>,
 }
 
 impl StepLine {
@@ -88,7 +89,7 @@ impl StepLine {
         Step {
             seat: self.seat,
             act,
-            condition: None,
+            condition: self.condition,
         }
     }
 

@@ -8,7 +8,7 @@ use crate::numbers::{begins_with_digit, minor_named, number_in};
 use crate::said::Said;
 use crate::step_line::{StepLine, Values};
 use crate::wanted::Wanted;
-use irp_script_reader::{Named, Section};
+use irp_script_reader::{Condition, Named, Section};
 use irp_types::{CancelId, DeviceId, DriverId, IrpRef, LockNo, Party};
 
 /// The packet that a word names by its slot, a point and its use number.
@@ -18,6 +18,26 @@ fn use_in(text: &str) -> Option<IrpRef> {
         slot: number_below(slot)? as usize,
         use_no: number_in(use_no)?,
     })
+}
+
+/// What stands before a step on its line: the section above, its seat, and what it hangs on.
+#[derive(Clone, Copy)]
+struct Head {
+    section: Section,
+    seat: u32,
+    condition: Option<Condition>,
+}
+
+impl Head {
+    /// The step with this word and these values.
+    fn step(self, act: Act, values: Values) -> StepLine {
+        StepLine {
+            seat: self.seat,
+            act,
+            values,
+            condition: self.condition,
+        }
+    }
 }
 
 /// A packet as a word names it.
@@ -181,27 +201,17 @@ impl<'a> Said<'a> {
     /// Takes the line of a stack: from the bottom up the drivers of its devices, each perhaps with a name, behind the
     /// lock that it and those above it have. It stands for the steps that create the devices, and those that attach
     /// each to the one below it.
-    fn take_stack(
-        &mut self,
-        section: Section,
-        seat: u32,
-        words: &mut Cursor<'a, '_>,
-    ) -> Option<()> {
+    fn take_stack(&mut self, head: Head, words: &mut Cursor<'a, '_>) -> Option<()> {
         let begin = *words;
         let bottom = self.devices;
-        self.take_stack_devices(section, seat, words)?;
+        self.take_stack_devices(head, words)?;
         let mut values = Values::NONE;
         for device in bottom..self.devices {
             if device > bottom {
                 values.device = DeviceId(device);
                 values.to = DeviceId(device - 1);
-                let step = StepLine {
-                    seat,
-                    act: Act::Attach,
-                    values,
-                };
-                self.place(section, &begin)?;
-                self.add_step(section, step)?;
+                self.place(head.section, &begin)?;
+                self.add_step(head.section, head.step(Act::Attach, values))?;
             }
         }
         Some(())
@@ -217,27 +227,17 @@ impl<'a> Said<'a> {
     }
 
     /// Takes the locks and the drivers of a stack.
-    fn take_stack_devices(
-        &mut self,
-        section: Section,
-        seat: u32,
-        words: &mut Cursor<'a, '_>,
-    ) -> Option<()> {
+    fn take_stack_devices(&mut self, head: Head, words: &mut Cursor<'a, '_>) -> Option<()> {
         if words.text() != "lock" {
             return words.fails(Wanted::StackLock);
         }
         let mut values = Values::NONE;
         for at in 0..words.left() {
             if at > 0 {
-                self.place(section, words)?;
+                self.place(head.section, words)?;
             }
             self.take_stack_device(&mut values, words)?;
-            let step = StepLine {
-                seat,
-                act: Act::CreateDevice,
-                values,
-            };
-            self.add_step(section, step)?;
+            self.add_step(head.section, head.step(Act::CreateDevice, values))?;
             if words.left() == 0 {
                 return Some(());
             }
@@ -254,24 +254,34 @@ impl<'a> Said<'a> {
         }
     }
 
-    /// Takes a step of a seat, behind that.
-    fn take_act(&mut self, section: Section, seat: u32, words: &mut Cursor<'a, '_>) -> Option<()> {
+    /// Takes a step, behind its head.
+    fn take_act(&mut self, head: Head, words: &mut Cursor<'a, '_>) -> Option<()> {
         let act = words.taken(Act::named(words.text()), Wanted::Act)?;
         let values = self.take_values(act, words)?;
         if act == Act::CreateDevice {
             self.take_device_name(words)?;
         }
-        self.add_step(section, StepLine { seat, act, values })
+        self.add_step(head.section, head.step(act, values))
     }
 
     /// Takes the line of a step of this section.
     pub fn take_step(&mut self, section: Section, words: &mut Cursor<'a, '_>) -> Option<()> {
         self.place(section, words)?;
+        if section == Section::Steps {
+            let number = self.steps.len();
+            self.take_name(Kind::Step, number, words)?;
+        }
         let seat = self.take_seat(words)?;
+        let condition = self.take_condition(words)?;
+        let head = Head {
+            section,
+            seat,
+            condition,
+        };
         if words.takes("stack") {
-            self.take_stack(section, seat, words)
+            self.take_stack(head, words)
         } else {
-            self.take_act(section, seat, words)
+            self.take_act(head, words)
         }
     }
 }

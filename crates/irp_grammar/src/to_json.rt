@@ -1,6 +1,7 @@
 //! What lines say, written as the JSON of a script.
 
 use crate::act::Key;
+use crate::condition::put_condition;
 use crate::said::Said;
 use crate::step_line::{StepLine, Values};
 use crate::written::Written;
@@ -173,6 +174,7 @@ fn put_step(text: &mut Written, step: &StepLine, labels: &[&str]) {
         text.put(":");
         put_value(text, *key, &step.values, labels);
     }
+    put_condition(text, step.condition);
     text.put("}");
 }
 
@@ -238,7 +240,7 @@ fn put_top(text: &mut Written, said: &Said<'_>) {
     text.number(u64::from(said.seats.unwrap_or(1)));
     text.put(",\"locks\":");
     text.number(u64::from(said.locks.unwrap_or(1)));
-    if said.form_number() == 2 {
+    if said.form_number() > 1 {
         text.put(",\"slots\":");
         text.number(u64::from(said.slots.unwrap_or(0)));
     }

@@ -1,6 +1,7 @@
 //! A script of JSON, written in words. What writes a word writes a blank before it.
 
 use crate::act::{Act, Key};
+use crate::condition::answer_word;
 use crate::members::{count_of, with_one};
 use crate::numbers::minor_name;
 use crate::to_json::letters;
@@ -8,7 +9,8 @@ use crate::written::Written;
 use irp_forms::{HasName, under};
 use irp_names::{major_name, status_name};
 use irp_script_reader::{
-    Behaviour, CompletionRoutine, ScriptFault, ScriptForm, ScriptParts, read_script,
+    Behaviour, CompletionRoutine, Condition, ExpectedAnswer, ScriptFault, ScriptForm, ScriptParts,
+    Step, read_script,
 };
 use irp_types::{
     CancelAnswer, CancelId, DispatchId, IrpRef, Known, Party, Plan, Row, Setting, Status,
@@ -231,12 +233,56 @@ fn put_value(text: &mut Written, key: Key, step: &Value, counts: Counts) {
     }
 }
 
-/// Writes a step, on a line.
-fn put_step(text: &mut Written, step: &Value, counts: Counts) {
+/// Writes the answer that a condition names.
+fn put_answer_named(text: &mut Written, answer: ExpectedAnswer, known: Known) {
+    match answer {
+        ExpectedAnswer::Status(status) => put_status(text, status),
+        ExpectedAnswer::Previous(Some(id)) => {
+            text.put(" routine");
+            put_cancel_id(text, id, known);
+        }
+        other => put_word(text, answer_word(other)),
+    }
+}
+
+/// Writes what a step hangs on, by the made-up name of the step above.
+fn put_condition(text: &mut Written, condition: Condition, known: Known) {
+    put_numbered(text, " if step_", u64::from(condition.step));
+    text.put(" is");
+    if !condition.wanted {
+        text.put(" not");
+    }
+    put_answer_named(text, condition.answer, known);
+}
+
+/// Whether a step hangs on the one of this place.
+fn is_named(steps: &[Step], place: usize) -> bool {
+    steps.iter().any(|step| match step.condition {
+        Some(condition) => condition.step as usize == place,
+        None => false,
+    })
+}
+
+/// Writes a step, on a line. Those of this list are the script's, where it may hang on one of them.
+fn put_step(text: &mut Written, step: &Value, place: usize, steps: &[Step], counts: Counts) {
     let Some(act) = Act::named(text_under("do", step)) else {
         return;
     };
-    put_numbered(text, "  seat ", number_under("seat", step));
+    text.put("  ");
+    if is_named(steps, place) {
+        put_numbered(text, "step_", place as u64);
+        text.put(": ");
+    }
+    put_numbered(text, "seat ", number_under("seat", step));
+    if let Some(
+        Step {
+            condition: Some(condition),
+            ..
+        },
+    ) = steps.get(place)
+    {
+        put_condition(text, *condition, counts.known);
+    }
     put_word(text, act.word());
     for key in act.keys() {
         put_word(text, key.word());
@@ -254,15 +300,15 @@ fn steps_under<'b>(key: &str, whole: &'b Value) -> &'b [Value] {
 }
 
 /// Writes steps, below their heading, which is this key.
-fn put_steps(text: &mut Written, key: &str, steps: &[Value], counts: Counts) {
-    if steps.is_empty() {
+fn put_steps(text: &mut Written, key: &str, forms: &[Value], steps: &[Step], counts: Counts) {
+    if forms.is_empty() {
         return;
     }
     text.put("\n");
     text.put(key);
     text.put("\n");
-    for step in steps {
-        put_step(text, step, counts);
+    for (place, form) in forms.iter().enumerate() {
+        put_step(text, form, place, steps, counts);
     }
 }
 
@@ -385,8 +431,12 @@ fn put_script(text: &mut Written, parts: &ScriptParts, whole: &Value) {
         known,
         drivers: parts.drivers.as_slice().len(),
     };
-    put_steps(text, "setup", steps_under("setup", whole), counts);
-    put_steps(text, "steps", steps_under("steps", whole), counts);
+    put_steps(text, "setup", steps_under("setup", whole), &[], counts);
+    let hanging = match parts.form {
+        ScriptForm::Three { .. } => parts.steps.as_slice(),
+        _ => &[],
+    };
+    put_steps(text, "steps", steps_under("steps", whole), hanging, counts);
 }
 
 /// The script of this JSON in words, with names made up for its routines, dispatches and drivers (docs/WORDS.md).

@@ -12,7 +12,7 @@ pub enum Wanted {
     Heading,
     /// A count that no line above gave.
     Once,
-    /// 1 or 2.
+    /// 1, 2 or 3.
     Form,
     /// No slots in form 1.
     FormTwo,
@@ -41,6 +41,10 @@ pub enum Wanted {
     Packet,
     Label,
     Cancel,
+    /// `is`, behind a step on which another hangs.
+    Is,
+    /// An answer on which a step hangs.
+    Answer,
     /// The word of a step.
     Act,
     /// A key of this step that it doesn't have yet.
@@ -68,10 +72,14 @@ pub enum Wanted {
 pub enum StepFault {
     /// Its seat isn't there.
     Seat,
-    /// It is on a remove lock or a cancel slot, and stands in setup.
+    /// It is on a remove lock or a cancel slot, or hangs on anything, and stands in setup.
     Setup,
-    /// Only form 2 has it.
+    /// Form 1 doesn't have it.
     Form,
+    /// It hangs on anything, and the form isn't 3.
+    FormThree,
+    /// It hangs on a step that isn't above, or isn't its seat's.
+    Condition,
     /// It hands a reference to its own seat, or to one that isn't there.
     Hand,
     /// It publishes in a cancel slot, or withdraws from one, that isn't its seat's.
@@ -82,8 +90,12 @@ pub enum StepFault {
 fn step_reason(fault: StepFault) -> &'static str {
     match fault {
         StepFault::Seat => "a seat below the number of seats",
-        StepFault::Setup => "a step that setup may have: none on a remove lock or a cancel slot",
-        StepFault::Form => "form 2, which alone has this step",
+        StepFault::Setup => {
+            "a step that setup may have: none on a remove lock or a cancel slot, and none with `if`"
+        }
+        StepFault::Form => "form 2 or 3, which have this step",
+        StepFault::FormThree => "form 3, which alone has steps with `if`",
+        StepFault::Condition => "an `if` with a step above, of the same seat",
         StepFault::Hand => "a hand to another seat that is there",
         StepFault::Slot =>
             "a slot that is there and is the seat's own: slot k is of seat k modulo seats",
@@ -101,6 +113,7 @@ fn kind_word(kind: Kind) -> &'static str {
         Kind::Lock => "remove lock",
         Kind::Slot => "cancel slot",
         Kind::Seat => "seat",
+        Kind::Step => "step",
     }
 }
 
@@ -112,8 +125,8 @@ impl Wanted {
                 "form, seats, locks, slots, completions, cancels, dispatches, drivers, setup or steps"
             }
             Wanted::Once => "a heading that no line above has",
-            Wanted::Form => "1 or 2",
-            Wanted::FormTwo => "form 2, which alone has slots",
+            Wanted::Form => "1, 2 or 3",
+            Wanted::FormTwo => "form 2 or 3, which have slots",
             Wanted::Count => "a number, or names",
             Wanted::Number => "a number below 2^64",
             Wanted::Number32 => "a number below 2^32",
@@ -134,6 +147,11 @@ impl Wanted {
             Wanted::Packet => "a packet: its label, or its slot, a point and its use number",
             Wanted::Label => "a label: 1 to 32 letters, digits or underscores",
             Wanted::Cancel => "a cancel routine: a number, a name that a line above gives, or none",
+            Wanted::Is => "is",
+            Wanted::Answer => {
+                "an answer: success, refused, routine, none, true, false, done, a word such as taken or yes, \
+                 or the name of a status or of a refusal"
+            }
             Wanted::Act => "a step such as allocate, stack, or seat and a seat",
             Wanted::StackLock => "lock",
             Wanted::Name => {
@@ -209,7 +227,7 @@ fn reason_at(fault: Fault, section: Section) -> &'static str {
         (Fault::BadField, Section::Seats) => "1 to 64 seats",
         (Fault::BadField, Section::Locks) => "1 to 64 remove locks",
         (Fault::BadField, Section::Slots) => "0 to 64 cancel slots",
-        (Fault::BadField, Section::Dispatches) => "a plan of this form: only form 2 has hold_slot",
+        (Fault::BadField, Section::Dispatches) => "a plan of this form: form 1 has no hold_slot",
         (Fault::BadField, _) => "a step that the script may have",
         (Fault::RuleBroken, Section::Completions) => {
             "behaviours of the rule: watch continues twice, change continues or replaces, \
