@@ -1,1 +1,2 @@
+mod PlansApart
 mod ToldApart

@@ -1,4 +1,5 @@
 pub mod Calls
+pub mod Closures
 pub mod Majors
 pub mod Refusals
 pub mod Replies
