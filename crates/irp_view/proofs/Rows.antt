@@ -16,22 +16,23 @@ use Rattle.std.specs.Prelude.{IfSome}
 pub behind : (x y z one other : List ℕ) → y ≡ x ++ one → z ≡ y ++ other → z ≡ x ++ (one ++ other)
 behind x y z one other p q = q ∙ ap (λ given. given ++ other) p ∙ append_assoc x one other
 
-pub all_rows : (entry : Entry) (wrong : Wrong) (known : Option (List ℕ)) (x a b c d y : List ℕ) → AddsHead wrong.at entry x a → AddsRow spec.differs_in (Some (part_text wrong.difference entry)) a b → AddsRow spec.says (value_text wrong.difference false entry) b c → AddsRow spec.manager (value_text wrong.difference true wrong.made) c d → AddsRow spec.rule known d y → AddsRows entry wrong x y
+-- a row whose words are known
+known_row : (name text x y : List ℕ) → AddsRow name (Some text) x y → y ≡ x ++ row_of name text
+known_row name text x y row = row.put ∙ ap (λ given. x ++ row_of name given) row.are
+
+pub all_rows : (entry : Entry) (wrong : Wrong) (known : Option (List ℕ)) (x a b c d y : List ℕ) → AddsHead wrong.at entry x a → AddsRow spec.differs_in (Some (part_text wrong.difference entry)) a b → AddsRow spec.says (Some (value_text wrong.difference false entry)) b c → AddsRow spec.manager (Some (value_text wrong.difference true wrong.made)) c d → AddsRow spec.rule known d y → AddsRows entry wrong x y
 all_rows entry wrong known x a b c d y head part given made rule = record {
-  rows = head_of wrong.at head.line (caller_text entry.call entry.drained) ++ (row_of spec.differs_in (part_text wrong.difference entry) ++ (row_of spec.says given.words ++ (row_of spec.manager made.words ++ row_of spec.rule rule.words)));
+  rows = head_of wrong.at head.line (caller_text entry.call entry.drained) ++ (row_of spec.differs_in (part_text wrong.difference entry) ++ (row_of spec.says (value_text wrong.difference false entry) ++ (row_of spec.manager (value_text wrong.difference true wrong.made) ++ row_of spec.rule rule.words)));
   are = record {
     line = head.line;
     line_is = head.line_is;
-    given = given.words;
-    given_is = given.are;
-    made = made.words;
-    made_is = made.are;
     words = rule.words;
     whole = refl;
   };
   put =
       behind x a y _ _ head.put
-      (behind a b y _ _ (part.put ∙ ap (λ given. a ++ row_of spec.differs_in given) part.are) (behind b c y _ _ given.put (behind c d y _ _ made.put rule.put)));
+      (behind a b y _ _ (known_row _ _ a b part)
+      (behind b c y _ _ (known_row _ _ b c given) (behind c d y _ _ (known_row _ _ c d made) rule.put)));
 }
 
 pub why_told : (entry : Entry) (wrong : Wrong) (section : Section) (x a b y : List ℕ) → AddsRows entry wrong x a → AddsCause (cause_told wrong.difference wrong.cause) a b → IfSome (section_of wrong.difference) (λ known. section ≡ known) → AddsSection section b y → AddsWhy entry wrong x y

@@ -82,14 +82,12 @@ AddsSection section before after = after ≡ before ++ see_row section
 pub record AreRows (entry : Entry) (wrong : Wrong) (rows : List ℕ) : Type 0 where
   pub line : ℕ
   pub line_is : wrong.at + 2 < 2 ^ 64 → line ≡ wrong.at + 2
-  pub given : List ℕ
-  pub given_is : AreWords (value_text wrong.difference false entry) given
-  pub made : List ℕ
-  pub made_is : AreWords (value_text wrong.difference true wrong.made) made
   pub words : List ℕ
   pub whole :
       rows ≡ head_of wrong.at line (caller_text entry.call entry.drained)
-      ++ (row_of differs_in (part_text wrong.difference entry) ++ (row_of says given ++ (row_of manager made ++ row_of rule words)))
+      ++ (row_of differs_in (part_text wrong.difference entry)
+      ++ (row_of says (value_text wrong.difference false entry)
+      ++ (row_of manager (value_text wrong.difference true wrong.made) ++ row_of rule words)))
 
 -- they were put behind what stood there
 pub record AddsRows (entry : Entry) (wrong : Wrong) (before after : List ℕ) : Type 0 where

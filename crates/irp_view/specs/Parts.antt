@@ -62,9 +62,9 @@ part_text (kind.Question at part) entry = question_text at part (slice_get entry
 part_text kind.Reply entry = codes "reply"
 
 -- a remove lock or none
-abbrev pub lock_text : Option LockNo → Option (List ℕ)
-lock_text None = Some (codes "none")
-lock_text (Some lock) = Some (codes "remove lock " ++ decimal lock.0)
+abbrev pub lock_text : Option LockNo → List ℕ
+lock_text None = codes "none"
+lock_text (Some lock) = codes "remove lock " ++ decimal lock.0
 
 -- whether a call is refused, and how: of one that the manager doesn't refuse no more is told
 abbrev pub refusal_told : Bool → Call → Reply → List ℕ
@@ -74,10 +74,10 @@ refusal_told true call reply =
     (codes "doesn't refuse it")
 
 -- what stands in the part that differs, of the manager's own entry or of the recorded one
-abbrev pub value_text : Difference → Bool → Entry → Option (List ℕ)
-value_text kind.Number is_made entry = Some (decimal entry.number)
+abbrev pub value_text : Difference → Bool → Entry → List ℕ
+value_text kind.Number is_made entry = decimal entry.number
 value_text kind.Lock is_made entry = lock_text entry.lock
-value_text kind.Drained is_made entry = Some (bool_text entry.drained)
-value_text kind.Refusal is_made entry = Some (refusal_told is_made entry.call entry.reply)
+value_text kind.Drained is_made entry = bool_text entry.drained
+value_text kind.Refusal is_made entry = refusal_told is_made entry.call entry.reply
 value_text (kind.Question at part) is_made entry = question_value at part is_made (slice_get entry.asked at)
-value_text kind.Reply is_made entry = Some (reply_text entry.call entry.reply)
+value_text kind.Reply is_made entry = reply_text entry.call entry.reply

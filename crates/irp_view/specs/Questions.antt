@@ -1,7 +1,6 @@
 -- Questions in words: the closure that is asked, what it is shown and what it answers.
 use Rattle.std.specs.Prelude.{ℕ, ◌==◌, List, [], ◌++◌, codes, Bool, true, false, Option, Some, None, if◌then◌else◌}
 use Rattle.std.specs.Fmt.{decimal}
-use Rattle.std.specs.Option.{option_map}
 use Rattle.irp_types.specs.declared.asked.Asked.{Asked}
 use Rattle.irp_types.specs.declared.asked.Asked.TheVariants as asked
 use Rattle.irp_types.specs.declared.names.DeviceId.{DeviceId}
@@ -10,6 +9,7 @@ use Rattle.irp_types.specs.declared.answer.Replacement.{Replacement}
 use Rattle.irp_types.specs.declared.answer.CancelAnswer.{CancelAnswer}
 use Rattle.irp_types.specs.declared.answer.CancelAnswer.TheVariants.{Finish, Leave}
 use Rattle.irp_types.specs.declared.shown.Shown.{Shown}
+use Rattle.irp_names.specs.Closures.{plan_text}
 use Rattle.irp_names.specs.Majors.{major_text}
 use Rattle.irp_names.specs.Small.{device_text, hex_text, routine_text}
 use Rattle.irp_names.specs.Statuses.{result_text, status_text}
@@ -76,17 +76,16 @@ abbrev pub cancel_answer_text : CancelAnswer → List ℕ
 cancel_answer_text (Finish information) = codes "finish, information " ++ hex_text information
 cancel_answer_text Leave = codes "leave"
 
--- an answer; the words for what a dispatch does aren't fixed here
-abbrev pub answer_text : Asked → Option (List ℕ)
-answer_text (asked.Dispatch id shown plan) = None
-answer_text (asked.Completion id shown answer) = Some (completion_text answer)
-answer_text (asked.Cancel id shown answer) = Some (cancel_answer_text answer)
+-- an answer
+abbrev pub answer_text : Asked → List ℕ
+answer_text (asked.Dispatch id shown plan) = plan_text plan
+answer_text (asked.Completion id shown answer) = completion_text answer
+answer_text (asked.Cancel id shown answer) = cancel_answer_text answer
 
 -- of the manager's own entry it is told that others may be allowed too
-abbrev pub answer_told : Bool → Asked → Option (List ℕ)
+abbrev pub answer_told : Bool → Asked → List ℕ
 answer_told false question = answer_text question
-answer_told true question =
-    option_map (λ (text : List ℕ). codes "an answer that is allowed, such as: " ++ text) (answer_text question)
+answer_told true question = codes "an answer that is allowed, such as: " ++ answer_text question
 
 -- ---- what differs
 
@@ -95,14 +94,14 @@ abbrev pub nobody_text : ℕ → List ℕ
 nobody_text at = if at == 0 then codes "asks nobody" else codes "asks nobody any more"
 
 -- what a question says in the part that differs, of the manager's own entry or of the recorded one
-abbrev pub told_of : QuestionPart → Bool → Asked → Option (List ℕ)
-told_of part.TooMany is_made question = Some (codes "asks " ++ who_text question)
-told_of part.TooFew is_made question = Some (codes "asks " ++ who_text question)
-told_of part.Closure is_made question = Some (codes "asks " ++ who_text question)
-told_of (part.Shown field) is_made question = Some (field_text field (shown_of question))
+abbrev pub told_of : QuestionPart → Bool → Asked → List ℕ
+told_of part.TooMany is_made question = codes "asks " ++ who_text question
+told_of part.TooFew is_made question = codes "asks " ++ who_text question
+told_of part.Closure is_made question = codes "asks " ++ who_text question
+told_of (part.Shown field) is_made question = field_text field (shown_of question)
 told_of part.Answer is_made question = answer_told is_made question
 
 -- the same of the question at this place, if there is one
-abbrev pub question_value : ℕ → QuestionPart → Bool → Option Asked → Option (List ℕ)
-question_value at part is_made None = Some (nobody_text at)
+abbrev pub question_value : ℕ → QuestionPart → Bool → Option Asked → List ℕ
+question_value at part is_made None = nobody_text at
 question_value at part is_made (Some question) = told_of part is_made question

@@ -13,7 +13,7 @@ use std::fmt;
 pub struct AnswerParts(pub Asked);
 
 impl fmt::Display for AnswerParts {
-    ghost output = { λ parts. answer_text parts.0 };
+    ghost output = { λ parts. Some (answer_text parts.0) };
 
     fn fmt<W: fmt::Write>(&self, f: &mut fmt::Formatter<W>) -> fmt::Result {
         match self.0 {

@@ -105,7 +105,7 @@ impl fmt::Display for WhoWords {
 struct LockWords(Option<LockNo>);
 
 impl fmt::Display for LockWords {
-    ghost output = { λ words. lock_text words.0 };
+    ghost output = { λ words. Some (lock_text words.0) };
 
     fn fmt<W: fmt::Write>(&self, f: &mut fmt::Formatter<W>) -> fmt::Result {
         match self.0 {
@@ -148,7 +148,7 @@ pub struct ValueWords<'a> {
 }
 
 impl fmt::Display for ValueWords<'_> {
-    ghost output = { λ words. value_text words.difference words.is_made words.entry.now };
+    ghost output = { λ words. Some (value_text words.difference words.is_made words.entry.now) };
 
     fn fmt<W: fmt::Write>(&self, f: &mut fmt::Formatter<W>) -> fmt::Result {
         let Entry {
@@ -183,8 +183,8 @@ impl fmt::Display for ValueWords<'_> {
 struct QuestionValue<'a>(ValueWords<'a>, usize, QuestionPart);
 
 impl fmt::Display for QuestionValue<'_> {
-    ghost output = { λ value. question_value value.1 value.2 value.0.is_made
-        (slice_get value.0.entry.now.asked value.1) };
+    ghost output = { λ value. Some (question_value value.1 value.2 value.0.is_made
+        (slice_get value.0.entry.now.asked value.1)) };
 
     fn fmt<W: fmt::Write>(&self, f: &mut fmt::Formatter<W>) -> fmt::Result {
         let QuestionValue(words, at, part) = *self;
@@ -218,7 +218,7 @@ fn nobody_text(at: usize) -> &'static str
 struct AnswerTold(Asked, bool);
 
 impl fmt::Display for AnswerTold {
-    ghost output = { λ told. answer_told told.1 told.0 };
+    ghost output = { λ told. Some (answer_told told.1 told.0) };
 
     fn fmt<W: fmt::Write>(&self, f: &mut fmt::Formatter<W>) -> fmt::Result {
         let answer = AnswerParts(self.0);
