@@ -105,7 +105,7 @@ impl Made {
     fn bind(&mut self, form: ScriptForm, size: u8, label: usize) {
         let most = match form {
             ScriptForm::One => 16,
-            ScriptForm::Two { .. } => 32,
+            ScriptForm::Two { .. } | ScriptForm::Three { .. } => 32,
         };
         if let Some(packet) = self.packets.get_mut(label) {
             if size <= most {

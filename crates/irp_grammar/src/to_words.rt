@@ -364,6 +364,7 @@ fn put_top(text: &mut Written, parts: &ScriptParts) {
     match parts.form {
         ScriptForm::One => text.put("form 1"),
         ScriptForm::Two { slots } => put_numbered(text, "form 2\nslots ", u64::from(slots)),
+        ScriptForm::Three { slots } => put_numbered(text, "form 3\nslots ", u64::from(slots)),
     }
     put_numbered(text, "\nseats ", u64::from(parts.seats));
     put_numbered(text, "\nlocks ", u64::from(parts.locks));

@@ -17,7 +17,7 @@ use Rattle.irp_script_reader.specs.Forms.{slots_of as script_slots}
 use Rattle.irp_script_reader.specs.Plans.{has_major, is_driver, is_handler}
 use Rattle.irp_script_reader.specs.Sound.{IsSound, known_of}
 use Rattle.irp_script_reader.specs.declared.script.ScriptForm.{ScriptForm}
-use Rattle.irp_script_reader.specs.declared.script.ScriptForm.TheVariants.{One, Two}
+use Rattle.irp_script_reader.specs.declared.script.ScriptForm.TheVariants.{One, Two, Three}
 use Rattle.irp_script_reader.specs.declared.script.ScriptParts.{ScriptParts}
 use Rattle.irp_machine.specs.Headers.{AreSorted, IsHeaderOf, IsSorted, form_of}
 
@@ -34,6 +34,7 @@ same_within known = record {
 same_slots : (form : ScriptForm) → slots_of (form_of form) ≡ script_slots form
 same_slots One = refl
 same_slots (Two slots) = refl
+same_slots (Three slots) = refl
 
 -- ---- drivers
 

@@ -13,10 +13,11 @@ use Rattle.irp_script_reader.specs.declared.script.ScriptForm.{ScriptForm}
 use Rattle.irp_script_reader.specs.declared.script.ScriptForm.TheVariants as script
 use Rattle.irp_script_reader.specs.declared.script.ScriptParts.{ScriptParts}
 
--- the form of a script's transcripts
+-- the form of a script's transcripts: those of form 3 have form 2
 abbrev pub form_of : ScriptForm → Form
 form_of script.One = form.One
 form_of (script.Two slots) = form.Two slots
+form_of (script.Three slots) = form.Two slots
 
 -- no major function code stands twice
 abbrev pub AreMajorsApart : List Entrance → Type 0

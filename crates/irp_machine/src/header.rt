@@ -97,13 +97,14 @@ fn drivers_of(
     Ok(sorted)
 }
 
-/// The form of a script's transcripts.
+/// The form of a script's transcripts: those of form 3 have form 2.
 fn form_of(form: ScriptForm) -> Form
     ensures { result ≡ form_of form }
 {
     match form {
         ScriptForm::One => Form::One,
         ScriptForm::Two { slots } => Form::Two { slots },
+        ScriptForm::Three { slots } => Form::Two { slots },
     }
 }
 

@@ -1,8 +1,12 @@
 -- A script that is read is sound: what each member keeps is kept by its list.
-use Rattle.std.proofs.Common.{◌≡◌, ℕ, suc, zero, ◌+◌, ◌≤◌, ◌<◌, List, [], ◌∷◌, ◌++◌, length, Bool, true, false, not, ◌&&◌, ◌||◌, nat_le, nat_lt, Option, Some, None, Result, Ok, Err, refl, sym, ap, ◌∙◌, subst, arith, if◌then◌else◌, codes, inr}
+use Rattle.std.proofs.Common.{◌≡◌, ℕ, suc, zero, ◌+◌, ◌≤◌, ◌<◌, List, [], ◌∷◌, ◌++◌, length, Bool, true, false, not, ◌&&◌, ◌||◌, nat_le, nat_lt, Option, Some, None, Result, Ok, Err, refl, sym, ap, ◌∙◌, subst, arith, if◌then◌else◌, codes, inl, inr, take, is_none}
 use Rattle.std.specs.Prelude.{IfOk, IsUtf8, ◌≢◌}
 use Rattle.std.specs.List.{All, AllPairs}
 use Rattle.std.proofs.Common.{bytes_eq, get_or}
+use mathlib.Core.Bool.{true≢false}
+use Rattle.std.proofs.lemmas.Bool.Decides.{eqb_tells}
+use Rattle.std.proofs.lemmas.List.{get_or_append_left, get_or_push, take-append-le, take_all}
+use Rattle.std.proofs.lemmas.Option.{get_or_from_slice_get, slice_get_within}
 use Rattle.std.proofs.lemmas.List.Quantifiers.{all_pairs_push}
 use Rattle.std.proofs.lemmas.Slice.Eq.{bytes_eq-Decides}
 use Rattle.std.specs.Option.{ok_or, option_and_then}
@@ -20,7 +24,7 @@ use Rattle.irp_types.specs.State.{most_known, no_routines}
 use Rattle.irp_types.specs.declared.{routine.Known.Known, answer.Plan.Plan, routine.Rule.Rule}
 use Rattle.irp_types.specs.declared.routine.Rule.TheVariants.{Watch, Change, Keeper, KeepOnError, Free}
 use Rattle.irp_script_reader.specs.Acts.{step_at}
-use Rattle.irp_script_reader.specs.Forms.{may_do, may_plan, slots_of, suits_setup}
+use Rattle.irp_script_reader.specs.Forms.{may_do, may_hang, may_plan, slots_of, suits_setup}
 use Rattle.irp_script_reader.specs.Labels.{label_at, place_among, place_of, with_label, with_labels}
 use Rattle.irp_script_reader.specs.Members.{may_have, takes_cancel, takes_completion, takes_dispatch, takes_driver, takes_step}
 use Rattle.irp_script_reader.specs.Plans.{is_driver, is_plan_sound, names_known}
@@ -28,6 +32,7 @@ use Rattle.irp_script_reader.specs.Routines.{completion_at, counted, obeys_its_r
 use Rattle.irp_script_reader.specs.Scripts.{count_at, form_at, keys_at, ReadsScript, routines_at, script_at, steps_at, tables_at, with_slots, count_of, no_steps}
 use Rattle.irp_script_reader.specs.Sound.{IsPlan, IsSound, IsStep, with_all, with_one}
 use Rattle.irp_script_reader.specs.Taking.{◌>>=◌, Tells, if_list, list_at, members_at, told, unless}
+use Rattle.irp_script_reader.specs.declared.condition.Condition.{Condition}
 use Rattle.irp_script_reader.specs.declared.{act.Step.Step, lists.Cancels.Cancels, lists.Completions.Completions}
 use Rattle.irp_script_reader.specs.declared.{lists.Dispatches.Dispatches, lists.Drivers.Drivers, lists.Steps.Steps}
 use Rattle.irp_script_reader.specs.declared.{refusal.Fault.Fault, refusal.ScriptFault.ScriptFault}
@@ -298,7 +303,37 @@ driver_kept dispatches list form has =
 
 -- what a list of steps has, in `setup` or else in `steps`
 abbrev IsListed : ScriptForm → ℕ → Bool → Step → Type 0
-IsListed form seats in_setup step = IsStep form seats step × (not in_setup || suits_setup step.act ≡ true)
+IsListed form seats in_setup step =
+    IsStep form seats step × (not in_setup || (suits_setup step.act && is_none step.condition) ≡ true)
+
+-- each step hangs on what it may hang on, behind those before it
+abbrev Hang : ScriptForm → List Step → Type 0
+Hang form steps =
+    (k : ℕ) (d : Step) → k < length steps → may_hang form (take k steps) (get_or steps k d).seat (get_or steps k d).condition ≡ true
+
+hang_more : (form : ScriptForm) (steps : List Step) (step : Step) → Hang form steps → may_hang form steps step.seat step.condition ≡ true
+    → Hang form (steps ++ step ∷ [])
+hang_more form steps step has may k d within = elim (eqb_tells k (length steps)) as (λ _. may_hang form (take k (steps ++ step ∷ [])) (get_or (steps ++ step ∷ []) k d).seat (get_or (steps ++ step ∷ []) k d).condition ≡ true) [
+  | inl is ↦
+      let before : take k (steps ++ step ∷ []) ≡ steps = take-append-le k steps (step ∷ []) (omega (arith, is.1)) ∙ take_all k steps (omega (arith, is.1)) in
+      let here : get_or (steps ++ step ∷ []) k d ≡ step = get_or_push steps step d k (sym is.1) in
+      ap (λ first. may_hang form first (get_or (steps ++ step ∷ []) k d).seat (get_or (steps ++ step ∷ []) k d).condition) before
+      ∙ ap (λ (one : Step). may_hang form steps one.seat one.condition) here ∙ may
+  | inr other ↦
+      let long = longer steps step 0 in
+      let less : k < length steps = omega (arith, within, other.1, long) in
+      let before : take k (steps ++ step ∷ []) ≡ take k steps = take-append-le k steps (step ∷ []) (omega (arith, less)) in
+      let here : get_or (steps ++ step ∷ []) k d ≡ get_or steps k d = get_or_append_left steps (step ∷ []) d k less in
+      ap (λ first. may_hang form first (get_or (steps ++ step ∷ []) k d).seat (get_or (steps ++ step ∷ []) k d).condition) before
+      ∙ ap (λ (one : Step). may_hang form (take k steps) one.seat one.condition) here ∙ has k d less
+]
+
+hang_none : (form : ScriptForm) → Hang form []
+hang_none form k d within = absurd (omega (arith, within))
+
+unhung : (condition : Option Condition) → is_none condition ≡ true → condition ≡ None
+unhung None is = refl
+unhung (Some condition) is = absurd (true≢false (sym is))
 
 -- labels of which there are no more than there may be, and no two the same
 abbrev AreLabels : List (List ℕ) → Type 0
@@ -307,7 +342,7 @@ AreLabels labels = (length labels ≤ 4096) × AllPairs (λ label later. label �
 abbrev AreSteps : ScriptForm → ℕ → Bool → Steps → Type 0
 AreSteps form seats in_setup list =
     (list.form ≡ form) × (list.seats ≡ seats) × (list.in_setup ≡ in_setup) × AreLabels list.labels
-    × All (IsListed form seats in_setup) list.steps
+    × All (IsListed form seats in_setup) list.steps × Hang form list.steps
 
 -- a label whose place is behind all labels is none of them
 none_place : (labels : List (List ℕ)) (label first : List ℕ) (same : Bool) → same ≡ bytes_eq first label
@@ -346,11 +381,13 @@ labels_kept labels (Some label) has =
 no_labels : AreLabels []
 no_labels = (omega arith, λ i j other before within. absurd (omega (arith, within)))
 
-may_is : (list : Steps) (step : Step) → may_have list step ≡ true → IsListed list.form list.seats list.in_setup step
+may_is : (list : Steps) (step : Step) → may_have list step ≡ true
+    → IsListed list.form list.seats list.in_setup step × (may_hang list.form list.steps step.seat step.condition ≡ true)
 may_is list step may =
     let seated = and_parts (nat_lt step.seat list.seats) _ may in
-    let both = and_parts (not list.in_setup || suits_setup step.act) (may_do list.form list.seats step.seat step.act) seated.1 in
-    ((ltb-true step.seat list.seats seated.0, both.1), both.0)
+    let both = and_parts (not list.in_setup || (suits_setup step.act && is_none step.condition)) _ seated.1 in
+    let does = and_parts (may_do list.form list.seats step.seat step.act) (may_hang list.form list.steps step.seat step.condition) both.1 in
+    (((ltb-true step.seat list.seats seated.0, does.0), both.0), does.1)
 
 step_kept : (form : ScriptForm) (seats : ℕ) (in_setup : Bool) (list : Steps) (given : Data) → AreSteps form seats in_setup list
     → IfOk (takes_step list given) (AreSteps form seats in_setup)
@@ -368,7 +405,8 @@ step_kept form seats in_setup list given has =
       All-push (IsListed form seats in_setup) list.steps step has.4
           (subst (λ to. IsListed to seats in_setup step) has.0
           (subst (λ to. IsListed list.form to in_setup step) has.1
-          (subst (λ to. IsListed list.form list.seats to step) has.2 (may_is list step may)))),
+          (subst (λ to. IsListed list.form list.seats to step) has.2 (may_is list step may).0))),
+      hang_more form list.steps step has.5 (ap (λ to. may_hang to list.steps step.seat step.condition) (sym has.0) ∙ (may_is list step may).1),
     ))))
 
 steps_kept : (form : ScriptForm) (seats : ℕ) (whole : Data)
@@ -378,12 +416,12 @@ steps_kept form seats whole =
     then_from (list_at takes_step section.Setup (codes "setup") (no_steps form seats true []) whole) _
     (AreSteps form seats true) _
     (list_kept takes_step section.Setup (AreSteps form seats true) (step_kept form seats true)
-    (codes "setup") (no_steps form seats true []) whole (refl, refl, refl, no_labels, All-nil _))
+    (codes "setup") (no_steps form seats true []) whole (refl, refl, refl, no_labels, All-nil _, hang_none form))
     (λ setup seated.
     then_from (list_at takes_step section.Steps (codes "steps") (no_steps form seats false setup.labels) whole) _
     (AreSteps form seats false) _
     (list_kept takes_step section.Steps (AreSteps form seats false) (step_kept form seats false)
-    (codes "steps") (no_steps form seats false setup.labels) whole (refl, refl, refl, seated.3, All-nil _))
+    (codes "steps") (no_steps form seats false setup.labels) whole (refl, refl, refl, seated.3, All-nil _, hang_none form))
     (λ steps others. (seated.4, others)))
 
 -- ---- seats, locks and cancel slots
@@ -410,6 +448,9 @@ slots_kept : (given : FormKey) (whole : Data) → IfOk (with_slots given whole) 
 unfolding with_slots
 slots_kept keys.One whole = omega arith
 slots_kept keys.Two whole =
+    then_from (count_at section.Slots 0 (codes "slots") whole) _ (IsCount 0) (λ form. slots_of form ≤ 64)
+    (count_kept section.Slots 0 (codes "slots") whole) (λ count few. few.1)
+slots_kept keys.Three whole =
     then_from (count_at section.Slots 0 (codes "slots") whole) _ (IsCount 0) (λ form. slots_of form ≤ 64)
     (count_kept section.Slots 0 (codes "slots") whole) (λ count few. few.1)
 
@@ -500,8 +541,14 @@ script_sound whole =
       completions = obey.0;
       dispatches = subst (λ known. All (IsPlan form known) tables.0) obey.1 named.1;
       drivers = named.2.2;
-      setup = listed.0;
+      setup = λ k step within. let one = listed.0 k step within in
+          (one.0, (and_parts (suits_setup (get_or steps.0 k step).act) (is_none (get_or steps.0 k step).condition) one.1).0);
+      unconditioned = λ k step within. let one = listed.0 k step within in
+          unhung (get_or steps.0 k step).condition (and_parts (suits_setup (get_or steps.0 k step).act) (is_none (get_or steps.0 k step).condition) one.1).1;
       steps = λ k step within. (listed.1.4 k step within).0;
+      conditions = λ k step there.
+          let here = listed.1.5 k step (slice_get_within steps.1.steps k step there) in
+          subst (λ (one : Step). may_hang form (take k steps.1.steps) one.seat one.condition ≡ true) (get_or_from_slice_get steps.1.steps k step step there) here;
     }))))))))
 
 pub told_sound : (result : Result ScriptParts ScriptFault) (whole : Data) → Tells result (script_at whole) → IfOk result IsSound

@@ -2,6 +2,7 @@ pub mod Labels
 pub mod Taking
 pub mod Routines
 pub mod Plans
+pub mod Conditions
 pub mod Acts
 pub mod Forms
 pub mod Members

@@ -1,13 +1,13 @@
 -- The lists of a script, and what each takes as its next member. A member's form (S4) is looked at before its rule
 -- (S5), then what it names (S6, S7), then the limits (S8).
-use Rattle.std.specs.Prelude.{◌&&◌, ◌||◌, length, Bool, not, nat_lt, Result, Ok}
+use Rattle.std.specs.Prelude.{◌&&◌, ◌||◌, length, Bool, is_none, not, nat_lt, Result, Ok}
 use Rattle.std.specs.Option.{ok_or}
 use Rattle.serde_json.specs.Data.{Data}
 use Rattle.irp_forms.specs.Parts.{list_at}
 use Rattle.irp_forms.specs.Values.{cancel_answer_at, handler_at, plan_at}
 use Rattle.irp_types.specs.Limits.{most_dispatches, most_drivers}
 use Rattle.irp_script_reader.specs.Acts.{step_at}
-use Rattle.irp_script_reader.specs.Forms.{may_do, may_plan, suits_setup}
+use Rattle.irp_script_reader.specs.Forms.{may_do, may_hang, may_plan, suits_setup}
 use Rattle.irp_script_reader.specs.Labels.{label_at, place_among, with_labels}
 use Rattle.irp_script_reader.specs.Plans.{is_driver, is_plan_sound, names_known}
 use Rattle.irp_script_reader.specs.Routines.{completion_at, counted, obeys_its_rule, one_more}
@@ -51,11 +51,13 @@ takes_driver list form = do
   room ← unless (nat_lt (length list.tables) most_drivers) TooMany
   Ok (record { dispatches = list.dispatches; tables = with_item list.tables handlers })
 
--- whether a list may have the step: its seat is there, `setup` may have it, and the seat may do it
+-- whether a list may have the step: its seat is there, `setup` may have it, which has no conditions, and the seat may do
+-- it, and hang it on what it hangs on
 abbrev pub may_have : Steps → Step → Bool
 may_have list step =
-    nat_lt step.seat list.seats && ((not list.in_setup || suits_setup step.act)
-    && may_do list.form list.seats step.seat step.act)
+    nat_lt step.seat list.seats
+    && ((not list.in_setup || (suits_setup step.act && is_none step.condition))
+    && (may_do list.form list.seats step.seat step.act && may_hang list.form list.steps step.seat step.condition))
 
 -- a step, and the label that it names
 unfoldable pub takes_step : Steps → Data → Result Steps Fault

@@ -1,12 +1,12 @@
 -- What is true of every script, list by list.
-use Rattle.std.specs.Prelude.{◌≡◌, ◌≢◌, ℕ, ◌+◌, ◌<◌, ◌≤◌, List, [], ◌∷◌, length, true}
+use Rattle.std.specs.Prelude.{◌≡◌, ◌≢◌, ℕ, ◌+◌, ◌<◌, ◌≤◌, List, [], ◌∷◌, length, slice_get, take, true, None, Some}
 use Rattle.std.specs.List.{All, AllPairs}
 use Rattle.irp_types.specs.Limits.{most_dispatches, most_drivers, most_locks, most_seats, most_slots}
 use Rattle.irp_types.specs.Rules.{IsWithin}
 use Rattle.irp_types.specs.State.{most_known, no_routines}
 use Rattle.irp_types.specs.declared.{answer.Plan.Plan, routine.Known.Known, routine.Rule.Rule}
 use Rattle.irp_types.specs.declared.routine.Rule.TheVariants.{Watch, Change, Keeper, KeepOnError, Free}
-use Rattle.irp_script_reader.specs.Forms.{may_do, may_plan, slots_of, suits_setup}
+use Rattle.irp_script_reader.specs.Forms.{may_do, may_hang, may_plan, slots_of, suits_setup}
 use Rattle.irp_script_reader.specs.Labels.{most_labels}
 use Rattle.irp_script_reader.specs.Plans.{is_driver, is_plan_sound, names_known}
 use Rattle.irp_script_reader.specs.Routines.{obeys_its_rule}
@@ -40,8 +40,9 @@ IsStep form seats step = (step.seat < seats) × (may_do form seats step.seat ste
 
 -- A script is within the limits: it has a seat and a remove lock at least, and no more of anything than there may be.
 -- Behaviours are those of their rules; plans are those that the form has, sound, and name only routines that the script
--- has; drivers name only dispatches that it has; no two labels are the same; each step's seat is there and may do it; and
--- `setup` has no step on a remove lock or on a cancel slot.
+-- has; drivers name only dispatches that it has; no two labels are the same; each step's seat is there and may do it, and
+-- hangs it on nothing, or in form 3 on the answer of an earlier one of its own; and `setup` has no step on a remove lock
+-- or on a cancel slot, and none with a condition.
 pub record IsSound (script : ScriptParts) : Type 0 where
   pub some_seats : 1 ≤ script.seats
   pub few_seats : script.seats ≤ most_seats
@@ -57,4 +58,7 @@ pub record IsSound (script : ScriptParts) : Type 0 where
   pub dispatches : All (IsPlan script.form (known_of script)) script.dispatches
   pub drivers : All (λ handlers. is_driver (length script.dispatches) handlers ≡ true) script.drivers
   pub setup : All (λ step. IsStep script.form script.seats step × (suits_setup step.act ≡ true)) script.setup
+  pub unconditioned : All (λ step. step.condition ≡ None) script.setup
   pub steps : All (IsStep script.form script.seats) script.steps
+  pub conditions : (k : ℕ) (step : Step) → slice_get script.steps k ≡ Some step
+      → may_hang script.form (take k script.steps) step.seat step.condition ≡ true

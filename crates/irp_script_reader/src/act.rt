@@ -19,21 +19,21 @@ pub enum Named {
 pub enum StepAct {
     /// A call of the manager. It names its packet as a step does, and a token by the cancel slot from which the seat
     /// took it. What a call allocates is known by no label. Any size, any number of a routine and any status is read.
-    /// Only form 2 has the finish of a taken packet.
+    /// Form 1 has no finish of a taken packet.
     Call(Call<Named, u32>),
     /// A new packet with so many locations, known from then on by the label that has this place among the script's
     /// labels (WDK: "IoAllocateIrp"). Any size is read.
     Allocate { size: u8, label: usize },
     /// An act on a remove lock, in the step's own seat alone.
     OnLock(LockAct),
-    /// The step's own seat gives one of its references to a remove lock, by lock and tag, to another seat. Only form
-    /// 2 has it. In a `Script` the other seat is there, and isn't the own.
+    /// The step's own seat gives one of its references to a remove lock, by lock and tag, to another seat. Form 1
+    /// has none. In a `Script` the other seat is there, and isn't the own.
     Hand(Hand),
-    /// Puts the use of a packet into a cancel slot. Only form 2 has it.
+    /// Puts the use of a packet into a cancel slot. Form 1 has none.
     Publish { slot: u32, irp: Named },
-    /// Takes the seat's own use out of a cancel slot again. Only form 2 has it.
+    /// Takes the seat's own use out of a cancel slot again. Form 1 has none.
     Withdraw { slot: u32 },
-    /// Takes what stands in a cancel slot, to cancel it. Only form 2 has it.
+    /// Takes what stands in a cancel slot, to cancel it. Form 1 has none.
     Request { slot: u32 },
 }
 
@@ -44,6 +44,7 @@ pub struct Step {
     pub seat: u32,
     /// What it does.
     pub act: StepAct,
-    /// What it hangs on. A step whose condition fails is passed over. None where it is made in any case.
+    /// What it hangs on, in form 3 alone: in a `Script` it names an earlier step of the same seat. A step whose condition
+    /// fails is passed over. None where it is made in any case.
     pub condition: Option<Condition>,
 }

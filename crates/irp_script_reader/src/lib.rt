@@ -4,6 +4,7 @@
 mod act;
 mod acts;
 mod condition;
+mod conditions;
 mod forms;
 mod labels;
 mod lists;

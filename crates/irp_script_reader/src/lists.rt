@@ -141,13 +141,17 @@ impl Taking for Drivers {
 }
 
 impl Steps {
-    /// Whether it may have the step: its seat is there, `setup` may have it, and the seat may do it.
+    /// Whether it may have the step: its seat is there, `setup` may have it, which has no conditions, and the seat may do
+    /// it, and hang it on what it hangs on.
     fn may_have(&self, step: Step) -> bool
         ensures { result ≡ spec.may_have self.now step }
     {
         step.seat < self.seats
-            && (!self.in_setup || step.act.suits_setup())
+            && (!self.in_setup || (step.act.suits_setup() && step.condition.is_none()))
             && self.form.may_do(self.seats, step.seat, step.act)
+            && self
+                .form
+                .may_hang(self.steps.as_slice(), step.seat, step.condition)
     }
 }
 

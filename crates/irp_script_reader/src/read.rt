@@ -27,6 +27,8 @@ enum FormKey {
     One,
     /// The number 2.
     Two,
+    /// The number 3.
+    Three,
 }
 
 /// The form of a script.
@@ -37,6 +39,7 @@ fn form_at(value: &Value) -> Result<FormKey, ScriptFault>
     match under::<u32>("form", value) {
         Some(1) => Ok(FormKey::One),
         Some(2) => Ok(FormKey::Two),
+        Some(3) => Ok(FormKey::Three),
         _ => Err(ScriptFault::Refused(ScriptRefusal::BadForm)),
     }
 }
@@ -61,6 +64,7 @@ fn keys_at(given: FormKey, value: &Value) -> Result<(), ScriptFault>
     match given {
         FormKey::One => only_keys(value, keys, &[]).ok_or(fault),
         FormKey::Two => only_keys(value, keys, &["slots"]).ok_or(fault),
+        FormKey::Three => only_keys(value, keys, &["slots"]).ok_or(fault),
     }
 }
 
@@ -85,6 +89,10 @@ fn with_slots(given: FormKey, value: &Value) -> Result<ScriptForm, ScriptFault>
         FormKey::Two => {
             let slots = count_at(Section::Slots, 0, "slots", value)?;
             Ok(ScriptForm::Two { slots })
+        }
+        FormKey::Three => {
+            let slots = count_at(Section::Slots, 0, "slots", value)?;
+            Ok(ScriptForm::Three { slots })
         }
     }
 }
@@ -198,8 +206,8 @@ fn script_at(alloc: Global, value: &Value) -> Result<ScriptParts, ScriptFault>
 /// # Errors
 ///
 /// `Refused` with the first fault, in this order: the text is longer than 1,048,576 bytes; `serde_json` reads no value
-/// from it; the value is no object, or its `form` isn't known; a key is missing or unknown (`slots` is a key of form 2
-/// alone); then the faults of `seats`, `locks`, `slots`, `completions`, `cancels`, `dispatches`, `drivers`, `setup` and
+/// from it; the value is no object, or its `form` isn't known; a key is missing or unknown (form 1 has no `slots`);
+/// then the faults of `seats`, `locks`, `slots`, `completions`, `cancels`, `dispatches`, `drivers`, `setup` and
 /// `steps`, in a list by place. `NoMemory` where memory runs out: never for an empty text, or for one that is too long.
 #[tactic(auto, using(crate::proofs::Sounds::told_sound, crate::proofs::Sounds::told_reads))]
 pub fn read_script(alloc: Global, bytes: &[u8]) -> Result<Script, ScriptFault>

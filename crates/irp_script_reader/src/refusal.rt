@@ -6,8 +6,9 @@ use thiserror::Error;
 #[derive(Clone, Copy, PartialEq, Eq, Debug, Error)]
 pub enum Fault {
     /// A key is missing, unknown or of a wrong shape or range; a seat is not below `seats`; a step on a remove lock or
-    /// on a cancel slot stands in `setup`; or what only form 2 has stands in form 1. In form 2 also a hand to the
-    /// step's own seat, and a publish in a slot, or a withdraw from one, that isn't there or isn't the seat's own.
+    /// on a cancel slot stands in `setup`; or what form 1 doesn't have stands there. From form 2 on also a hand to the
+    /// step's own seat, and a publish in a slot, or a withdraw from one, that isn't there or isn't the seat's own. A
+    /// condition before form 3, or in `setup`, or one that names no earlier step of the step's own seat.
     #[error("S4")]
     BadField,
     /// A behaviour, the status of a finish or the setting of a forward is against its rule.
@@ -36,7 +37,7 @@ pub enum Section {
     /// The number of remove locks.
     #[error("locks")]
     Locks,
-    /// The number of cancel slots, in form 2.
+    /// The number of cancel slots, from form 2 on.
     #[error("slots")]
     Slots,
     /// The completion routines.

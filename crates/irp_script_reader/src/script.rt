@@ -42,6 +42,11 @@ pub enum ScriptForm {
         /// How many cancel slots there are, at most 64 in a `Script`.
         slots: u32,
     },
+    /// The same, with steps that hang on what an earlier step of the same seat was answered.
+    Three {
+        /// How many cancel slots there are, at most 64 in a `Script`.
+        slots: u32,
+    },
 }
 
 impl ScriptForm {
@@ -51,7 +56,7 @@ impl ScriptForm {
     {
         match self {
             ScriptForm::One => 0,
-            ScriptForm::Two { slots } => slots,
+            ScriptForm::Two { slots } | ScriptForm::Three { slots } => slots,
         }
     }
 }

@@ -119,10 +119,11 @@ tables_of script =
 
 -- ---- the output
 
--- the form of a script's transcript: the same, with as many cancel slots
+-- the form of a script's transcript: the same, and form 2 where the script has form 3, with as many cancel slots
 abbrev pub form_of : ScriptForm → Form
 form_of script_form.One = One
 form_of (script_form.Two slots) = Two slots
+form_of (script_form.Three slots) = Two slots
 
 -- what is fixed while the script is run with these tables
 abbrev pub fixed_for : Script → Tables → Fixed

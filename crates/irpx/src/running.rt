@@ -105,13 +105,14 @@ fn seats_of<L: Session>(
     Ok(seats)
 }
 
-/// The form of the transcript of a script of this form.
+/// The form of the transcript of a script of this form: that of form 3 has form 2.
 fn form_of(form: ScriptForm) -> Form
     ensures { result ≡ form_of form }
 {
     match form {
         ScriptForm::One => Form::One,
         ScriptForm::Two { slots } => Form::Two { slots },
+        ScriptForm::Three { slots } => Form::Two { slots },
     }
 }
 

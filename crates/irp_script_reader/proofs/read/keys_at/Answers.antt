@@ -10,3 +10,7 @@ returns-in-One c = rw c.in-One.is (tells_or c.ok_or.ensures.value c.refused-faul
 pub returns-in-Two : goal.returns-in-Two
 unfolding keys_at
 returns-in-Two c = rw c.in-Two.is (tells_or c.ok_or-in-Two.ensures.value c.refused-fault.ensures c.only_keys-in-Two.ensures)
+
+pub returns-in-Three : goal.returns-in-Three
+unfolding keys_at
+returns-in-Three c = rw c.in-Three.is (tells_or c.ok_or-in-Three.ensures.value c.refused-fault.ensures c.only_keys-in-Three.ensures)
