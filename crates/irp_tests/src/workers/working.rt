@@ -3,7 +3,7 @@
 use super::{ALLOCATE, CREATE, LOCK, LOOK, by, worked};
 use crate::outcome::{NO_MEMORY, Outcome, holds, number};
 use irp_script::{AlwaysOpen, Gate, Stop, StopReason};
-use irp_script_reader::StepAct;
+use irp_script_reader::{Condition, ExpectedAnswer, Step, StepAct};
 use irp_shared::{WordLine, WordReply};
 use irp_types::LockAct;
 use std::alloc::Global;
@@ -100,12 +100,26 @@ impl Gate for Turns {
     }
 }
 
-/// The gate is called before and after each step, with its seat and its place.
+/// The gate is called before and after each step that is made, with its seat and its place: not for one whose condition
+/// fails.
 pub fn the_gate_is_called_before_and_after_each_step<R: Threads + Wait + Sync>(
     rt: &R,
     alloc: Global,
 ) -> Outcome {
-    let steps = [by(2, ALLOCATE), by(0, acquire(1)), by(1, LOOK)];
+    let passed_over = Step {
+        condition: Some(Condition {
+            step: 2,
+            wanted: true,
+            answer: ExpectedAnswer::AnyRefusal,
+        }),
+        ..by(1, LOOK)
+    };
+    let steps = [
+        by(2, ALLOCATE),
+        by(0, acquire(1)),
+        by(1, LOOK),
+        passed_over,
+    ];
     let gate = Turns {
         begun: AtomicU64::new(0),
         answered: AtomicU64::new(0),
