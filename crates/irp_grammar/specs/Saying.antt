@@ -1,6 +1,7 @@
 -- The script that lines say, and what is told of it.
-use Rattle.std.specs.Prelude.{◌≡◌, ◌==◌, ℕ, Bool, true, false, List, [], map, any, Option, Some, None, is_some, Ok}
+use Rattle.std.specs.Prelude.{◌≡◌, ◌==◌, ℕ, Bool, true, false, List, [], map, Option, Some, None, is_some, Ok}
 use Rattle.std.specs.Prelude.{if◌then◌else◌, string_bytes}
+use Rattle.std.specs.List.{list_any}
 use Rattle.std.specs.Option.{unwrap_or}
 use Rattle.irp_types.specs.declared.call.Call.{Call}
 use Rattle.irp_types.specs.declared.call.Call.TheVariants as call
@@ -17,7 +18,7 @@ use Rattle.irp_grammar.specs.declared.law.Untold.TheVariants as untold
 
 -- a step hangs on anything
 abbrev pub have_conditions : List StepLine → Bool
-have_conditions lines = any (λ line. is_some line.condition) lines
+have_conditions lines = list_any (λ (line : StepLine). is_some line.condition) lines
 
 -- the form's number: as the lines say; else 3 where a step hangs on anything, 2 where they have slots, and 1 where they
 -- have neither
