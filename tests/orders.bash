@@ -1,6 +1,6 @@
 #!/bin/bash
 # Shows that `irp_orders` tells the outcomes of the races in examples/orders as they were worked out, judges conditions on
-# them, and ends as it should where it is refused or a bound is met; then that it tells the same orders as the second
+# them and whether they are right, and ends as it should where it is refused or a bound is met; then that it tells the same orders as the second
 # reading's model, and that runs by several workers print no others (orders.py).
 #
 # IRP_ORDERS and IRPX name the programs; without them, they are those that bin/irp_orders and bin/irpx run. COUNT is how many
@@ -107,6 +107,41 @@ meets 'the shown steps are told as the table tells them' \
 run --ends --never 'status(a) == 0xC0000120' "$examples"/a_cancel_against_a_completion.script
 meets 'by ends too' [ "$(grep -c '^    step .* -> ' "$room/output")" -eq 3 ]
 
+# Whether every order is right: the first line, and what is wrong with the order that is shown.
+while IFS='|' read -r name status line wrongs; do
+    [ -n "$name" ] || continue
+    run --right "$examples/$name.script"
+    ended "$name, right" "$status" '' "$line"
+    told=$(sed -n 's/^wrong: //p' "$room/output" | paste -sd';')
+    meets "$name, right: wrong: $told" [ "$told" = "$wrongs" ]
+done <<'END'
+two_preparations_of_one_packet|0|right: 2 orders, 2 outcomes|
+a_lost_pending_mark|2|not right in 3 of 3 orders, 3 of 3 outcomes; one of them:|step 1 was refused: NotOwner;D1 has a
+a_cancel_against_a_completion|2|not right in 2 of 3 orders, 2 of 3 outcomes; one of them:|step 2 was refused: Ended
+a_removal_against_a_send|2|not right in 55 of 71 orders, 4 of 5 outcomes; one of them:|step 3 was refused: NotDrained
+a_hand_over_against_a_drain|2|not right in 118 of 143 orders, 3 of 5 outcomes; one of them:|step 5 was refused: not_held;remove lock 0 is held, by seat 2 as tag 1
+a_cancel_against_a_completion_by_a_slot|2|not right in 46 of 46 orders, 4 of 4 outcomes; one of them:|step 4 was refused: no_token
+END
+# What a single order may leave: a packet at its device, a full slot, a cancel routine; and a setup that was refused.
+left() {
+    printf '{"form":2,"slots":1,"seats":1,"locks":1,"completions":[],"cancels":[["finish",0]],"dispatches":[[%s]],"drivers":[[[3,0]]],"setup":[%s,%s,%s,%s%s],"steps":[%s]}' \
+        "$1" '{"seat":0,"do":"create_device","driver":0,"lock":0}' '{"seat":0,"do":"allocate","size":1,"as":"a"}' \
+        '{"seat":0,"do":"set_next","by":"o","irp":"a","major":3,"word":7}' \
+        '{"seat":0,"do":"call_driver","by":"o","irp":"a","target":0}' "$2" "$3" >"$room/left.script"
+    run --right "$room/left.script"
+    told=$(sed -n 's/^wrong: //p' "$room/output" | paste -sd';')
+}
+look='{"seat":0,"do":"look","irp":"a"}'
+left '"hold_slot"' '' '{"seat":0,"do":"publish","slot":0,"irp":"a"}'
+ended 'a full slot' 2 '' 'not right in 1 of 1 orders, 1 of 1 outcomes; one of them:'
+meets "a full slot: $told" [ "$told" = 'D0 has a;cancel slot 0 is full: use 1 stands in it' ]
+left '"hold",0' '' "$look"
+meets "a cancel routine: $told" [ "$told" = 'D0 has a;a still has a cancel routine' ]
+left '"finish",0,4' ',{"seat":0,"do":"mark_pending","by":0,"irp":"a"}' "$look"
+meets "a setup: $told" [ "$told" = 'step 4 of setup was refused: Ended' ]
+left '"finish",0,4' '' "$look"
+ended 'a look at what was completed' 0 '' 'right: 1 orders, 1 outcomes'
+
 # Texts that are no conditions: the column, and what was expected there.
 while IFS='|' read -r condition column expected; do
     [ -n "$column" ] || continue
@@ -204,7 +239,7 @@ ended 'faulty words' 1 'line 2, column 10: "STATUS_SUCESS"; expected a status: a
 line 4, column 8: "by"; expected a key of look, each once: irp'
 
 # Other words, files and outputs.
-usage='irp_orders: usage: irp_orders [--show K or --never CONDITION] [FILE]; see irp_orders --help'
+usage='irp_orders: usage: irp_orders [--show K or --never CONDITION or --right] [FILE]; see irp_orders --help'
 while read -r words; do
     # shellcheck disable=SC2086
     run $words <.
@@ -217,6 +252,13 @@ done <<'END'
 --workers 2
 one two
 END
+for words in '--show 1' '--never live(a)' --ends; do
+    # shellcheck disable=SC2086
+    run --right $words "$examples"/a_lost_pending_mark.script
+    ended "--right $words" 4 'irp_orders: --right stands without --show, --never and --ends; leave out the other word'
+done
+run --right --states 1 "$examples"/a_removal_against_a_send.script
+ended 'one state, right' 3 'irp_orders: more states than may be side by side; --states N allows more, --ends needs fewer'
 run "$room/none.script"
 ended 'no such file' 5 "irp_orders: $room/none.script: can't be opened: there is no such file"
 run <.

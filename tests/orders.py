@@ -4,7 +4,8 @@ irpx prints.
 Usage: orders.py IRP_ORDERS IRPX COUNT RUNS SEED. Of the small scripts of the examples and of COUNT scripts made by chance
 the two have to tell as many orders for the same outcomes: the same replies, and the same packets and devices at the end;
 each transcript that is shown has to be legal by the model, and its calls to change their seat as often as in the order of
-this outcome that does so least often, or less often where the script has steps that aren't calls. Of COUNT further scripts
+this outcome that does so least often, or less often where the script has steps that aren't calls; and `--right` has to tell how
+many orders don't end right. Of COUNT further scripts
 that free and allocate packets the same is compared, and, where one seat makes all their steps, the transcript that is
 shown with the one that irpx writes. Of each race, RUNS runs on as many workers as it has seats have to print one of the
 outcomes; so does each of RUNS / 4 runs of a third as many scripts of either kind. As many runs as there are processors go on at
@@ -112,6 +113,18 @@ def told(text, script):
     return found, None
 
 
+def judged(text, orders, right):
+    """Returns what is wrong with what `--right` tells of a script with so many orders, so many of them right; or None."""
+    it = subprocess.run([IRP_ORDERS, "--right"], input=text, capture_output=True, timeout=300)
+    line = it.stdout.decode().split("\n")[0]
+    if right == orders:
+        is_so = it.returncode == 0 and line.startswith(f"right: {orders} orders, ")
+    else:
+        is_so = it.returncode == 2 and line.startswith(f"not right in {orders - right} of {orders} orders, ")
+        is_so = is_so and b"\nwrong: " in it.stdout
+    return None if is_so else f"expected {right} of {orders} orders right, got status {it.returncode}, {line}"
+
+
 def differs(script, wanted, got):
     """Returns what differs in the outcomes of a script, or None. Those whose replies and packets are the same stand together:
     other things tell them apart."""
@@ -139,7 +152,7 @@ def compare(name, text):
     try:
         found, wrong = told(text, script)
         if found is not None:
-            wrong = differs(script, wanted, found)
+            wrong = differs(script, wanted, found) or judged(text, sum(wanted[0].values()), wanted[2])
     except ValueError as error:
         wrong = str(error)
     tally.note(KIND, f"{name}: {wrong}", wrong is None)

@@ -191,19 +191,41 @@ def replies_of(lines, begun):
     return compact([sorted(calls, key=lambda c: c[0]), words])
 
 
+REFUSED_WORDS = ('seat_full', 'not_held', 'already_removing', 'no_lock', 'used', 'not_standing', 'no_slot', 'no_token')
+
+
+def is_refused(reply):
+    """Returns whether a call, or a step on a remove lock or on a cancel slot, was refused by this reply."""
+    return reply in REFUSED_WORDS if isinstance(reply, str) else isinstance(reply, dict) and 'refused' in reply
+
+
+def is_right(stepper):
+    """Returns whether an order ends right: no step was refused, no device has a packet, no remove lock is held, no cancel
+    slot is full, and no packet has a cancel routine."""
+    replies = [line['reply'] for line in stepper.lines()[1:]]
+    packets = stepper.manager.live.values()
+    return not (
+        any(is_refused(reply) for reply in replies)
+        or any(type(p.owner) is int or p.cancel_routine is not None for p in packets)
+        or any(stepper.locks.count)
+        or any(stepper.slots.content)
+    )
+
+
 def changes_of(seats):
     """Returns how often the seat changes from one step to the next."""
     return sum(one != other for one, other in zip(seats, seats[1:]))
 
 
 def orders_of(script, most):
-    """Returns how many orders have which outcome, and the fewest changes of seat among these; or None where there are more
-    orders than `most`. An outcome is the replies, what is left in the manager, and what else is left."""
+    """Returns how many orders have which outcome, the fewest changes of seat among these, and how many orders end right; or
+    None where there are more orders than `most`. An outcome is the replies, what is left in the manager, and what else is
+    left."""
     lengths = collections.Counter(step['seat'] for step in script.steps)
     least = math.factorial(sum(lengths.values())) // math.prod(map(math.factorial, lengths.values()))
     if least > most:
         return None
-    found, fewest = collections.Counter(), {}
+    found, fewest, right = collections.Counter(), {}, [0]
 
     def follow(path):
         """Follows all orders that begin so."""
@@ -224,7 +246,8 @@ def orders_of(script, most):
                 ended.makes(seat)
             outcome = replies_of(ended.lines()[1:], ended.begun), manager_end(ended.manager), other_end(ended)
             found[outcome] += 1
+            right[0] += is_right(ended)
             fewest[outcome] = min(fewest.get(outcome, len(path)), changes_of(path))
 
     follow([])
-    return None if sum(found.values()) > most else (found, fewest)
+    return None if sum(found.values()) > most else (found, fewest, right[0])

@@ -1,14 +1,19 @@
 -- Outcomes that are joined in groups.
-use Rattle.std.proofs.Common.{ℕ, zero, suc, ◌≡◌, ◌⊎◌, inl, inr, refl, sym, ◌∙◌, ap, subst, ◌+◌, ◌<◌, ◌≤◌, ◌==◌, min, List, [], ◌∷◌, ◌++◌, length, set, Bool, true, false, Option, Some, All, arith, reverse, append_assoc, length-append}
-use Rattle.std.specs.Prelude.{if◌then◌else◌, slice_get}
+use Rattle.std.proofs.Common.{ℕ, zero, suc, ◌≡◌, ◌⊎◌, inl, inr, refl, sym, ◌∙◌, ap, subst, ◌+◌, ◌<◌, ◌≤◌, ◌==◌, min, List, [], ◌∷◌, ◌++◌, length, set, Bool, true, false, Option, Some, All, arith, get_or, reverse, append_assoc, length-append}
+use Rattle.std.specs.Prelude.{if◌then◌else◌, slice_get, Vec}
 use Rattle.std.proofs.lemmas.List.{length-set}
 use Rattle.std.proofs.lemmas.Option.{slice_get_within, slice_get-map, get_or_from_slice_get, slice_get-get_or}
 use Rattle.std.proofs.lemmas.List.{append-nil, reverse-append, reverse-reverse}
+use Rattle.std.proofs.lemmas.List.Elements.{All-push}
 use Rattle.std.proofs.lemmas.List.Sorted.{Contains-permutation, IsPermutation-sym}
 use Rattle.std.specs.List.Sorted.{IsPermutation}
-use Rattle.std.specs.Option.{option_map}
+use Rattle.std.specs.Option.{IsSomeAnd, option_map}
+use Rattle.irp_machine.specs.declared.outcome.Outcome.{Outcome}
+use Rattle.irp_plain.specs.declared.answered.Answered.{Answered}
+use Rattle.irp_script_reader.specs.declared.act.Step.{Step}
+use Rattle.irp_orders.specs.Alike.{AreAlike}
 use Rattle.irp_orders.specs.Founds.{outcomes_of}
-use Rattle.irp_orders.specs.Rows.{IsOwn, members_of, most_orders, all_orders, IsGroup, AreGroupedBy, AreGrouped, AreMadeOf, joined_row, Joins}
+use Rattle.irp_orders.specs.Rows.{IsAnswered, IsOwn, members_of, most_orders, all_orders, IsGroup, AreGroupedBy, AreGrouped, AreMadeOf, joined_row, Joins}
 use Rattle.irp_orders.specs.declared.found.Found.{Found}
 
 members_more : (group : ℕ) (founds : List Found) (numbers : List ℕ) (found : Found) (number : ℕ) → length numbers ≡ length founds
@@ -37,16 +42,32 @@ orders_more : (orders : ℕ) (founds : List Found) (found : Found) → all_order
 orders_more orders [] found = refl
 orders_more orders (one ∷ founds) found = orders_more (min (orders + one.orders) most_orders) founds found
 
+-- what is alike a row is alike its first member
+alike_first : (row first found : Found) → row.outcome ≡ first.outcome → row.answers ≡ first.answers → AreAlike row found → AreAlike first found
+alike_first row first found outcome answers alike =
+    let ended : AreAlike (record first { outcome = row.outcome; answers = row.answers }) found = record {
+      same = record { answers = alike.same.answers; slots = alike.same.slots; locks = alike.same.locks; devices = alike.same.devices };
+      pairs = alike.pairs;
+      once = alike.once;
+      uses = alike.uses;
+      packets = alike.packets;
+    } in
+    subst (λ (outcome : Outcome). AreAlike (record first { outcome = outcome }) found) outcome
+    (subst (λ (answers : Vec (Option Answered) Global). AreAlike (record first { outcome = row.outcome; answers = answers }) found) answers ended)
+
 -- one more member of a row
-member_more : (row found : Found) (members : List Found) → IsGroup row members → IsGroup (joined_row row found) (members ++ found ∷ [])
-member_more row found members is =
+member_more : (row found : Found) (members : List Found) → IsGroup row members → AreAlike row found
+    → IsGroup (joined_row row found) (members ++ found ∷ [])
+member_more row found members is alike =
     let long : length (members ++ found ∷ []) ≡ length members + 1 = length-append members (found ∷ []) in
     let told = is.joined in
     record {
       first = is.first;
       others = is.others ++ found ∷ [];
       members_are = ap (λ (members : List Found). members ++ found ∷ []) is.members_are;
+      alike = All-push (AreAlike is.first) is.others found is.alike (alike_first row is.first found is.outcome is.answers alike);
       outcome = is.outcome;
+      answers = is.answers;
       orders = ap (λ orders. min (orders + found.orders) most_orders) is.orders ∙ sym (orders_more is.first.orders is.others found);
       joined = omega (arith, long, told);
     }
@@ -54,7 +75,16 @@ member_more row found members is =
 alone : (found : Found) → IsOwn found → IsGroup found (found ∷ [])
 alone found own =
     let one = own.joined in
-    record { first = found; others = []; members_are = refl; outcome = refl; orders = refl; joined = omega (arith, one) }
+    record {
+      first = found;
+      others = [];
+      members_are = refl;
+      alike = λ k d low. absurd (omega (arith, low));
+      outcome = refl;
+      answers = refl;
+      orders = refl;
+      joined = omega (arith, one);
+    }
 
 get_set : (rows : List Found) (number other : ℕ) (row : Found) → (number ≡ other → ⊥) → slice_get (set rows number row) other ≡ slice_get rows other
 get_set [] number other row apart = refl
@@ -98,8 +128,9 @@ weaker numbers bound more less all k d within = let low = all k d within in omeg
 
 -- one more outcome in a group
 grouped_in : (founds rows : List Found) (found : Found) (numbers : List ℕ) (number : ℕ) (row : Found) → AreGroupedBy founds rows numbers
-    → slice_get rows number ≡ Some row → AreGroupedBy (founds ++ found ∷ []) (set rows number (joined_row row found)) (numbers ++ number ∷ [])
-grouped_in founds rows found numbers number row grouped stands = record {
+    → slice_get rows number ≡ Some row → AreAlike row found
+    → AreGroupedBy (founds ++ found ∷ []) (set rows number (joined_row row found)) (numbers ++ number ∷ [])
+grouped_in founds rows found numbers number row grouped stands alike = record {
   each = long_more founds numbers found number grouped.each;
   within =
       subst (λ long. All (λ number. number < long) (numbers ++ number ∷ [])) (sym (length-set rows number (joined_row row found)))
@@ -120,7 +151,8 @@ grouped_in founds rows found numbers number row grouped stands = record {
         (subst (λ n. slice_get (set rows number (joined_row row found)) n ≡ Some other) (sym here) is) in
         subst (λ (row : Found). IsGroup row (members_of k (founds ++ found ∷ []) (numbers ++ number ∷ []))) (sym other_is)
         (subst (λ (members : List Found). IsGroup (joined_row row found) members) (sym (with_found k true same))
-        (member_more row found (members_of k founds numbers) (subst (λ n. IsGroup row (members_of n founds numbers)) here (grouped.groups number row stands))))
+        (member_more row found (members_of k founds numbers)
+        (subst (λ n. IsGroup row (members_of n founds numbers)) here (grouped.groups number row stands)) alike))
     by k other is false apart =
         let same = get_set rows number k (joined_row row found) (λ here. let met : (number == k) ≡ true = grind (arith, here) in cc) in
         subst (λ (members : List Found). IsGroup other members) (sym (with_found k false apart ∙ append-nil (members_of k founds numbers)))
@@ -159,11 +191,11 @@ grouped_last founds rows found numbers grouped own = record {
 pub grouped_more : (founds rows new : List Found) (found : Found) → AreGrouped founds rows → IsOwn found → Joins rows found new
     → AreGrouped (founds ++ found ∷ []) new
 grouped_more founds rows new found grouped own joins = by joins.made where
-  by : ((row : Found) × (slice_get rows joins.number ≡ Some row) × (new ≡ set rows joins.number (joined_row row found)))
+  by : ((row : Found) × (slice_get rows joins.number ≡ Some row) × AreAlike row found × (new ≡ set rows joins.number (joined_row row found)))
       ⊎ ((joins.number ≡ length rows) × (new ≡ rows ++ found ∷ [])) → AreGrouped (founds ++ found ∷ []) new
   by (inl made) =
-      subst (λ (new : List Found). AreGrouped (founds ++ found ∷ []) new) (sym made.2)
-      (grouped.0 ++ joins.number ∷ [], grouped_in founds rows found grouped.0 joins.number made.0 grouped.1 made.1)
+      subst (λ (new : List Found). AreGrouped (founds ++ found ∷ []) new) (sym made.3)
+      (grouped.0 ++ joins.number ∷ [], grouped_in founds rows found grouped.0 joins.number made.0 grouped.1 made.1 made.2)
   by (inr made) =
       subst (λ (new : List Found). AreGrouped (founds ++ found ∷ []) new) (sym made.1)
       (grouped.0 ++ length rows ∷ [], grouped_last founds rows found grouped.0 grouped.1 own)
@@ -203,6 +235,15 @@ own_more [] found all own (suc k) d less = absurd (omega (arith, less))
 own_more (one ∷ founds) found all own zero d less = all 0 d (omega arith)
 own_more (one ∷ founds) found all own (suc k) d less =
     own_more founds found (λ k d within. all (suc k) d (omega (arith, within))) own k d (omega (arith, less))
+
+pub alike_at : (rows : List Found) (number : ℕ) (row found : Found) → slice_get rows number ≡ Some row
+    → IsSomeAnd (slice_get rows number) (λ row. AreAlike row found) → AreAlike row found
+alike_at rows number row found is alike = subst (λ (one : Option Found). IsSomeAnd one (λ row. AreAlike row found)) is alike
+
+pub alike_there : (rows : List Found) (number : ℕ) (some found : Found) → number < length rows → AreAlike (get_or rows number some) found
+    → IsSomeAnd (slice_get rows number) (λ row. AreAlike row found)
+alike_there rows number some found low alike =
+    subst (λ (one : Option Found). IsSomeAnd one (λ row. AreAlike row found)) (sym (slice_get-get_or rows number some low)) alike
 
 -- ---- which outcome a row shows
 

@@ -1,5 +1,7 @@
 mod Grouping
+mod Pairing
+mod Programs
 mod Ranking
+mod Righting
 mod Showing
 mod Verdicts
-mod Programs

@@ -78,7 +78,7 @@ unexplored_of script order told found.Orders same steps states orders ends =
 
 -- ---- judging
 
-contained : (founds : List Found) (place : ℕ) (found : Found) → slice_get founds place ≡ Some found
+pub contained : (founds : List Found) (place : ℕ) (found : Found) → slice_get founds place ≡ Some found
     → Contains (outcomes_of founds) found.outcome
 contained founds place found at =
     let outcome : Found → Outcome = λ (found : Found). found.outcome in
@@ -125,6 +125,7 @@ unexplored_judges script order text ending.NoMemory un = tt
 unexplored_judges script order text (ending.Met bound) un = un
 unexplored_judges script order text ending.NoOrder un = absurd un
 unexplored_judges script order text ending.OtherWords un = absurd un
+unexplored_judges script order text ending.NotBesideRight un = absurd un
 unexplored_judges script order text (ending.RefusedCondition fault) un = absurd un
 unexplored_judges script order text (ending.NoOutcome count) un = absurd un
 unexplored_judges script order text (ending.NoFile name reason) un = absurd un
@@ -141,6 +142,7 @@ unjudged_judges script order text ending.NoMemory un = tt
 unjudged_judges script order text (ending.Met bound) un = absurd un
 unjudged_judges script order text ending.NoOrder un = tt
 unjudged_judges script order text ending.OtherWords un = absurd un
+unjudged_judges script order text ending.NotBesideRight un = absurd un
 unjudged_judges script order text (ending.RefusedCondition fault) un = un
 unjudged_judges script order text (ending.NoOutcome count) un = absurd un
 unjudged_judges script order text (ending.NoFile name reason) un = absurd un

@@ -23,6 +23,7 @@ use Rattle.irp_orders.specs.declared.ending.Ending.TheVariants.{
   Met,
   NoOrder,
   OtherWords,
+  NotBesideRight,
   RefusedCondition,
   NoOutcome,
   NoFile,
@@ -40,6 +41,7 @@ status_of NoMemory = 3
 status_of (Met met) = 3
 status_of NoOrder = 3
 status_of OtherWords = 4
+status_of NotBesideRight = 4
 status_of (RefusedCondition fault) = 4
 status_of (NoOutcome count) = 4
 status_of (NoFile name reason) = 5

@@ -1,12 +1,14 @@
--- Which outcomes meet a condition, and which of them is shown.
+-- Which outcomes break what is asked of orders, and which of them is shown.
 use Rattle.std.specs.Prelude.{ℕ, ◌≡◌, ◌<◌, ◌≤◌, ◌↔◌, Bool, true, false, IsTrue, List, length, slice_get, slice_index_or, Option, Some, None, All}
 use Rattle.std.specs.List.{AllZip}
 use Rattle.std.specs.Option.{option_map_or}
+use Rattle.irp_types.specs.declared.entry.Entry.{Entry}
 use Rattle.irp_condition.specs.declared.condition.Condition.{Condition}
 use Rattle.irp_script_reader.specs.declared.act.Step.{Step}
 use Rattle.irp_script_reader.specs.declared.script.ScriptParts.{ScriptParts}
 use Rattle.irp_orders.specs.Conditions.{Says}
 use Rattle.irp_orders.specs.Facts.{Meets}
+use Rattle.irp_orders.specs.Right.{IsRight, IsSetup}
 use Rattle.irp_orders.specs.declared.ending.Ending.{Ending}
 use Rattle.irp_orders.specs.declared.ending.Ending.TheVariants.{Done, Broken}
 use Rattle.irp_orders.specs.declared.found.Found.{Found}
@@ -15,10 +17,13 @@ use Rattle.irp_orders.specs.declared.found.Found.{Found}
 abbrev pub IsBreach : List Step → Condition → Found → Type 0
 IsBreach steps condition found = Meets steps condition found.outcome.end
 
--- a mark for each outcome, by place: whether it meets the condition
-abbrev pub AreMarks : List Step → Condition → List Found → List Bool → Type 0
-AreMarks steps condition founds marks =
-    AllZip (λ found mark. IsTrue mark ↔ IsBreach steps condition found) founds marks
+-- an outcome that was found isn't right, behind the setup that these entries tell
+abbrev pub IsWrong : List Step → List Entry → Found → Type 0
+IsWrong steps setup found = IsRight steps setup found.outcome.end → ⊥
+
+-- a mark for each outcome, by place: whether it breaks what is asked
+abbrev pub AreMarks : (Found → Type 0) → List Found → List Bool → Type 0
+AreMarks Breaks founds marks = AllZip (λ found mark. IsTrue mark ↔ Breaks found) founds marks
 
 -- how many atomic steps the path of an outcome has
 abbrev pub steps_of : Found → ℕ
@@ -38,16 +43,16 @@ IsShortestBelow founds marks count (Some shown) =
     (shown < count) × (is_marked marks shown ≡ true)
     × ((place : ℕ) → place < count → is_marked marks place ≡ true → steps_at founds shown ≤ steps_at founds place)
 
--- an outcome meets the condition, and none that does has a shorter path
-pub record IsShortest (steps : List Step) (condition : Condition) (founds : List Found) (found : Found) : Type 0 where
-  pub breach : IsBreach steps condition found
-  pub shortest : All (λ other. IsBreach steps condition other → steps_of found ≤ steps_of other) founds
+-- an outcome breaks what is asked, and none that does has a shorter path
+pub record IsShortest (Breaks : Found → Type 0) (founds : List Found) (found : Found) : Type 0 where
+  pub breach : Breaks found
+  pub shortest : All (λ other. Breaks other → steps_of found ≤ steps_of other) founds
 
--- no outcome meets the condition; or the one at this place does, with a path that is as short as any
-abbrev pub IsVerdict : List Step → Condition → List Found → Option ℕ → Type 0
-IsVerdict steps condition founds None = All (λ found. IsBreach steps condition found → ⊥) founds
-IsVerdict steps condition founds (Some place) =
-    (found : Found) × (slice_get founds place ≡ Some found) × IsShortest steps condition founds found
+-- no outcome breaks what is asked; or the one at this place does, with a path that is as short as any
+abbrev pub IsVerdict : (Found → Type 0) → List Found → Option ℕ → Type 0
+IsVerdict Breaks founds None = All (λ found. Breaks found → ⊥) founds
+IsVerdict Breaks founds (Some place) =
+    (found : Found) × (slice_get founds place ≡ Some found) × IsShortest Breaks founds found
 
 -- how the program ends by what was judged
 abbrev pub verdict_ending : Option ℕ → Ending
@@ -60,5 +65,13 @@ pub record IsTold (script : ScriptParts) (tells : Bool) (text : List ℕ) (found
   pub condition : Condition
   pub says : Says script tells text condition
   pub shown : Option ℕ
-  pub verdict : IsVerdict script.steps condition founds shown
+  pub verdict : IsVerdict (IsBreach script.steps condition) founds shown
+  pub ends : ending ≡ verdict_ending shown
+
+-- the outcomes that were found are judged by whether they are right; the program ends so
+pub record IsExamined (script : ScriptParts) (founds : List Found) (ending : Ending) : Type 0 where
+  pub setup : List Entry
+  pub set_up : IsSetup script setup
+  pub shown : Option ℕ
+  pub verdict : IsVerdict (IsWrong script.steps setup) founds shown
   pub ends : ending ≡ verdict_ending shown

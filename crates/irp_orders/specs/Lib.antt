@@ -1,3 +1,4 @@
+pub mod Alike
 pub mod Conditions
 pub mod Ending
 pub mod Exploring
@@ -5,4 +6,5 @@ pub mod Facts
 pub mod Founds
 pub mod Judging
 pub mod Program
+pub mod Right
 pub mod Rows

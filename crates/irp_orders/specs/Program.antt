@@ -1,11 +1,12 @@
 -- What the program does for a script and what is asked of its orders.
-use Rattle.std.specs.Prelude.{ℕ, ◌≡◌, ◌⊎◌, ◌-◌, ◌<◌, ⊤, Bool, List, length, slice_get, take, Option, Some, IfSome, Ok, Err, All, Contains}
+use Rattle.std.specs.Prelude.{ℕ, ◌≡◌, ◌⊎◌, ◌-◌, ◌<◌, ⊤, Bool, true, false, List, length, slice_get, take, Option, Some, IfSome, Ok, Err, All, Contains}
 use Rattle.std.specs.Io.KnownBytes.{Appends, Consumes}
 use Rattle.irp_condition.specs.declared.condition.Condition.{Condition}
 use Rattle.irp_machine.specs.Endings.{end_of}
 use Rattle.irp_machine.specs.Orders.{AreOutcomesOf}
 use Rattle.irp_machine.specs.Replays.{IsReplay, told_end}
 use Rattle.irp_machine.specs.declared.outcome.Outcome.{Outcome}
+use Rattle.irp_types.specs.declared.entry.Entry.{Entry}
 use Rattle.irp_transcript.specs.Transcripts.{TranscriptValue}
 use Rattle.irp_transcript_writer.specs.Lines.{lines, text_of}
 use Rattle.irp_script_reader.specs.Scripts.{ReadsScript}
@@ -14,10 +15,11 @@ use Rattle.irp_script_reader.specs.declared.script.ScriptParts.{ScriptParts}
 use Rattle.irp_orders.specs.Conditions.{Says, SaysNothing}
 use Rattle.irp_orders.specs.Exploring.{IsUnexplored, MeetsBound, tells}
 use Rattle.irp_orders.specs.Facts.{Meets}
+use Rattle.irp_orders.specs.Right.{IsRight, IsSetup}
 use Rattle.irp_orders.specs.Rows.{AreRowsOf}
 use Rattle.irp_orders.specs.declared.asked.Order.{Order}
 use Rattle.irp_orders.specs.declared.asked.Task.{Task}
-use Rattle.irp_orders.specs.declared.asked.Task.TheVariants.{Never, Show, Table}
+use Rattle.irp_orders.specs.declared.asked.Task.TheVariants.{Never, Right, Show, Table}
 use Rattle.irp_orders.specs.declared.found.Found.{Found}
 use Rattle.irp_orders.specs.declared.ending.Ending.{Ending}
 use Rattle.irp_orders.specs.declared.ending.Ending.TheVariants.{
@@ -79,6 +81,46 @@ Judges script order text NoMemory = ⊤
 Judges script order text NoOrder = ⊤
 Judges script order text Failed = ⊤
 Judges script order text other = ⊥
+
+-- ---- what is right
+
+-- these are the outcomes of a script's orders, with what the steps were answered, and these entries tell its setup
+pub record AreToBeRight (script : ScriptParts) (setup : List Entry) (outcomes : List Outcome) : Type 0 where
+  pub outcomes_are : AreOutcomesOf script true outcomes
+  pub set_up : IsSetup script setup
+
+-- every order of a script ends right
+abbrev pub AreAllRight : ScriptParts → Type 0
+AreAllRight script =
+    (outcomes : List Outcome) × (setup : List Entry) × AreToBeRight script setup outcomes
+    × All (λ outcome. IsRight script.steps setup outcome.end) outcomes
+
+-- some order of a script doesn't end right
+abbrev pub IsOneWrong : ScriptParts → Type 0
+IsOneWrong script =
+    (outcomes : List Outcome) × (setup : List Entry) × (outcome : Outcome) × AreToBeRight script setup outcomes
+    × Contains outcomes outcome × (IsRight script.steps setup outcome.end → ⊥)
+
+-- the same is asked, and answers of steps tell outcomes apart
+abbrev pub with_replies : Order → Order
+with_replies order = record order { by_ends = false }
+
+-- how the program ends that was asked whether every order ends right: Done, with status 0, only where each does; Broken,
+-- with 2, only where one doesn't; Met, with 3, only where the orders meet this bound
+abbrev pub Examines : ScriptParts → Order → Ending → Type 0
+Examines script order Done = AreAllRight script
+Examines script order Broken = IsOneWrong script
+Examines script order (Met bound) = MeetsBound script (with_replies order) bound
+Examines script order NoMemory = ⊤
+Examines script order NoOrder = ⊤
+Examines script order Failed = ⊤
+Examines script order other = ⊥
+
+-- why it isn't told whether outcomes are right: memory ran out, or an order isn't made again
+abbrev pub IsUnexamined : Ending → Type 0
+IsUnexamined NoMemory = ⊤
+IsUnexamined NoOrder = ⊤
+IsUnexamined other = ⊥
 
 -- ---- rows
 
@@ -145,6 +187,7 @@ IsSent wanted ending = (ending ≡ wanted) ⊎ IsUnwritten ending
 abbrev pub Answers : ScriptParts → Order → Task → Option (List ℕ) → Option (List ℕ) → Ending → Type 0
 Answers script order (Never text) old new ending = Judges script order text.now ending
 Answers script order (Show number) old new ending = Shows script order number old new ending
+Answers script order Right old new ending = Examines script order ending
 Answers script order Table old new ending = Tables script order ending
 
 -- ---- the whole

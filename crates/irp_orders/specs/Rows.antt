@@ -2,8 +2,11 @@
 use Rattle.std.specs.Prelude.{ℕ, ◌≡◌, ◌+◌, ◌-◌, ◌^◌, ◌<◌, ◌==◌, ◌⊎◌, ◌++◌, min, set, if◌then◌else◌, List, [], ◌∷◌, length, slice_get, Some, Bool, true, false, All}
 use Rattle.std.specs.List.Sorted.{IsPermutation}
 use Rattle.irp_machine.specs.Orders.{AreOutcomesOf}
+use Rattle.irp_script_reader.specs.declared.act.Step.{Step}
 use Rattle.irp_script_reader.specs.declared.script.ScriptParts.{ScriptParts}
+use Rattle.irp_orders.specs.Alike.{AreAlike}
 use Rattle.irp_orders.specs.Exploring.{tells}
+use Rattle.irp_orders.specs.Facts.{answers_of}
 use Rattle.irp_orders.specs.Founds.{outcomes_of}
 use Rattle.irp_orders.specs.declared.asked.Order.{Order}
 use Rattle.irp_orders.specs.declared.found.Found.{Found}
@@ -12,6 +15,10 @@ use Rattle.irp_orders.specs.declared.found.Found.{Found}
 pub record IsOwn (found : Found) : Type 0 where
   pub orders : found.orders ≡ found.outcome.orders
   pub joined : found.joined ≡ 1
+
+-- an outcome stands beside what these steps were answered
+abbrev pub IsAnswered : List Step → Found → Type 0
+IsAnswered steps found = found.answers.items ≡ answers_of steps found.outcome.end
 
 -- ---- groups
 
@@ -34,12 +41,15 @@ abbrev pub all_orders : ℕ → List Found → ℕ
 all_orders orders [] = orders
 all_orders orders (found ∷ founds) = all_orders (min (orders + found.orders) most_orders) founds
 
--- a row tells the first of its members, how many orders lead to all of them, and how many they are
+-- a row tells the first of its members, which all others are alike, how many orders lead to all of them, and how many
+-- they are
 pub record IsGroup (row : Found) (members : List Found) : Type 0 where
   pub first : Found
   pub others : List Found
   pub members_are : members ≡ first ∷ others
+  pub alike : All (AreAlike first) others
   pub outcome : row.outcome ≡ first.outcome
+  pub answers : row.answers ≡ first.answers
   pub orders : row.orders ≡ all_orders first.orders others
   pub joined : row.joined ≡ min (length members) most_joined
 
@@ -61,11 +71,11 @@ joined_row row found = record {
   joined = min (row.joined + 1) most_joined;
 }
 
--- an outcome was joined with the row of this number, or put behind all rows
+-- an outcome was joined with the row of this number, which it is alike, or put behind all rows
 pub record Joins (old : List Found) (found : Found) (new : List Found) : Type 0 where
   pub number : ℕ
   pub made :
-      ((row : Found) × (slice_get old number ≡ Some row) × (new ≡ set old number (joined_row row found)))
+      ((row : Found) × (slice_get old number ≡ Some row) × AreAlike row found × (new ≡ set old number (joined_row row found)))
       ⊎ ((number ≡ length old) × (new ≡ old ++ found ∷ []))
 
 -- ---- rows
@@ -81,4 +91,5 @@ pub record AreRowsOf (script : ScriptParts) (order : Order) (rows : List Found) 
   pub founds : List Found
   pub outcomes : AreOutcomesOf script (tells order) (outcomes_of founds)
   pub own : All IsOwn founds
+  pub answered : All (IsAnswered script.steps) founds
   pub made : AreMadeOf order.in_groups founds rows

@@ -7,6 +7,7 @@ ghost use Rattle.irp_orders.specs.declared.ending.Ending.TheVariants.{Done, NoOu
 ghost use Rattle.irp_orders.specs.Judging.{IsTold};
 ghost use Rattle.irp_orders.specs.Program.{
   Answers,
+  Examines,
   Explores,
   IsAnswered,
   IsGivenUp,
@@ -24,6 +25,7 @@ ghost use Rattle.irp_orders.specs.Program.{
 use crate::asked::{Order, Task};
 use crate::conditions::condition_of;
 use crate::ending::Ending;
+use crate::examining::explore_and_examine;
 use crate::exploring::founds_of;
 use crate::found::Found;
 use crate::groups::groups_of;
@@ -104,6 +106,16 @@ fn never<O: Out>(
     ensures { Judges script.now order.now text.now result }
 {
     match explore_and_judge(alloc, script, order, text) {
+        Ok((text, ending)) => send_text(output, text.as_slice(), ending),
+        Err(ending) => ending,
+    }
+}
+
+/// Tells whether every order of a script ends right, and how the program ends.
+fn examine<O: Out>(alloc: Global, output: &mut O, script: &Script, order: &Order<'_>) -> Ending
+    ensures { Examines script.now order.now result }
+{
+    match explore_and_examine(alloc, script, order) {
         Ok((text, ending)) => send_text(output, text.as_slice(), ending),
         Err(ending) => ending,
     }
@@ -226,6 +238,7 @@ fn answer<O: Out>(alloc: Global, output: &mut O, script: &Script, order: &Order<
         Task::Show(number) => show(alloc, output, script, order, number),
         Task::Table => tell(alloc, output, script, order),
         Task::Never(text) => never(alloc, output, script, order, text),
+        Task::Right => examine(alloc, output, script, order),
     }
 }
 

@@ -11,6 +11,8 @@ pub enum Task<'a> {
     Show(u64),
     /// Whether this condition holds of no outcome.
     Never(&'a str),
+    /// Whether every outcome is right: no step is refused, and nothing is left behind.
+    Right,
 }
 
 /// How orders are explored, and what is told of them.
@@ -44,6 +46,8 @@ pub enum Asked<'a> {
 pub enum Unasked {
     /// The words are none that the program takes.
     Usage,
+    /// `--right` stands beside `--show`, `--never` or `--ends`.
+    NotBesideRight,
     /// Memory ran out.
     NoMemory,
 }

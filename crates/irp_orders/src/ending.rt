@@ -38,7 +38,8 @@ impl fmt::Display for NoOpen {
 /// How the program ends: its exit status, and the line for standard error (this project's own command line).
 #[derive(Drop)]
 pub enum Ending {
-    /// All was done, and the condition never holds where one was asked: status 0, and no line.
+    /// All was done; the condition never holds where one was asked, and every order is right where that was asked: status 0,
+    /// and no line.
     Done,
     /// The script is refused: status 1.
     RefusedScript(ScriptRefusal),
@@ -46,7 +47,7 @@ pub enum Ending {
     FaultyWords(String),
     /// The JSON isn't read as what the words say; no text is known that brings this about: status 1.
     Differs,
-    /// An order makes the condition hold, and was told: status 2, and no line.
+    /// An order makes the condition hold, or isn't right, and was told: status 2, and no line.
     Broken,
     /// Memory ran out: status 3.
     NoMemory,
@@ -57,6 +58,8 @@ pub enum Ending {
     NoOrder,
     /// The words are none that the program takes: status 4.
     OtherWords,
+    /// `--right` stands beside a word that asks for something else: status 4.
+    NotBesideRight,
     /// The condition isn't one: status 4.
     RefusedCondition(Fault),
     /// There are only so many outcomes: status 4.
@@ -77,7 +80,10 @@ impl Ending {
             Ending::RefusedScript(_) | Ending::FaultyWords(_) | Ending::Differs => 1,
             Ending::Broken => 2,
             Ending::NoMemory | Ending::Met(_) | Ending::NoOrder => 3,
-            Ending::OtherWords | Ending::RefusedCondition(_) | Ending::NoOutcome(_) => 4,
+            Ending::OtherWords
+            | Ending::NotBesideRight
+            | Ending::RefusedCondition(_)
+            | Ending::NoOutcome(_) => 4,
             Ending::NoFile { .. } | Ending::Failed => 5,
         }
     }
@@ -129,7 +135,10 @@ impl fmt::Display for Ending {
             Ending::Met(met) => write!(f, "irp_orders: {}", bound_words(*met)),
             Ending::NoOrder => f.write_str("irp_orders: an order can't be made again"),
             Ending::OtherWords => f.write_str(
-                "irp_orders: usage: irp_orders [--show K or --never CONDITION] [FILE]; see irp_orders --help",
+                "irp_orders: usage: irp_orders [--show K or --never CONDITION or --right] [FILE]; see irp_orders --help",
+            ),
+            Ending::NotBesideRight => f.write_str(
+                "irp_orders: --right stands without --show, --never and --ends; leave out the other word",
             ),
             Ending::RefusedCondition(fault) => write!(f, "irp_orders: condition refused: {fault}"),
             Ending::NoOutcome(count) => write!(f, "irp_orders: outcomes are numbered 1 to {count}"),
@@ -145,6 +154,7 @@ impl From<Unasked> for Ending {
     fn from(given: Unasked) -> Ending {
         match given {
             Unasked::Usage => Ending::OtherWords,
+            Unasked::NotBesideRight => Ending::NotBesideRight,
             Unasked::NoMemory => Ending::NoMemory,
         }
     }

@@ -4,7 +4,7 @@ ghost use Rattle.std.specs.Prelude.{◌≡◌, All, IfErr, IfOk, not};
 ghost use Rattle.irp_machine.specs.Limits.{tells_replies};
 ghost use Rattle.irp_machine.specs.Orders.{AreOutcomesOf};
 ghost use Rattle.irp_orders.specs.Founds.{outcomes_of};
-ghost use Rattle.irp_orders.specs.Rows.{IsOwn};
+ghost use Rattle.irp_orders.specs.Rows.{IsAnswered, IsOwn};
 ghost use Rattle.irp_orders.specs.Exploring.{IsUnexplored, tells};
 
 use crate::asked::Order;
@@ -58,6 +58,7 @@ pub fn founds_of(alloc: Global, script: &Script, order: &Order<'_>) -> Result<Ve
     ensures outcomes { IfOk result (λ founds.
         AreOutcomesOf script.now (tells order.now) (outcomes_of founds.items)) }
     ensures own { IfOk result (λ founds. All IsOwn founds.items) }
+    ensures answered { IfOk result (λ founds. All (IsAnswered script.now.steps) founds.items) }
     ensures met { IfErr result (IsUnexplored script.now order.now) }
 {
     let outcomes = explored(alloc, script, order)?;

@@ -3,7 +3,7 @@
 ghost use Rattle.std.specs.Prelude.{◌≡◌, All, IfOk};
 ghost use Rattle.std.specs.List.Sorted.{IsPermutation};
 ghost use Rattle.irp_orders.specs.Founds.{outcomes_of};
-ghost use Rattle.irp_orders.specs.Rows.{IsOwn};
+ghost use Rattle.irp_orders.specs.Rows.{IsAnswered, IsOwn};
 
 use crate::facts::answers_of;
 use irp_machine::{Answered, Outcome};
@@ -52,6 +52,7 @@ pub fn found_of(
 ) -> Result<Vec<Found>, AllocError>
     ensures outcomes { IfOk result (λ founds. outcomes_of founds.items ≡ outcomes.items) }
     ensures own { IfOk result (λ founds. All IsOwn founds.items) }
+    ensures answered { IfOk result (λ founds. All (IsAnswered steps.now) founds.items) }
 {
     let mut founds = Vec::new(alloc);
     while let Some(outcome) = outcomes.pop() {

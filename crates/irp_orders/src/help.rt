@@ -11,14 +11,17 @@ irp_orders explores every order in which the seats of a script can make their st
 Usage: irp_orders [--ends] [--groups] [--states N] [--outcomes N] [FILE]
        irp_orders --show K [..] [FILE]
        irp_orders --never CONDITION [..] [FILE]
+       irp_orders --right [..] [FILE]
 
 The script is read from FILE, or from standard input. A file whose name ends with .words holds words, as irp_words reads
-them. Without --show and --never, irp_orders prints a table of the outcomes, the most frequent first: how many orders end
-so, the replies in which outcomes differ, the live packets, the remove locks and the cancel slots.
+them. Without --show, --never and --right, irp_orders prints a table of the outcomes, the most frequent first: how many
+orders end so, the replies in which outcomes differ, the live packets, the remove locks and the cancel slots.
 
   --show K           prints a transcript that leads to outcome K
   --write FOLDER     writes the table and a transcript for each outcome there (bin/irp_orders takes this word)
   --never CONDITION  tells whether no order ends so; where one does, shows one that does
+  --right            tells whether every order ends right: no step is refused, no device still has a packet, no remove lock
+                     is held, no cancel slot is full, and no cancel routine is left; else shows one that doesn't, and why
   --ends             joins outcomes that end alike, whatever was replied: for larger scripts
   --groups           joins outcomes that differ in the numbers of uses and slots of packets alone
   --states N         at most N states side by side; 500,000 without it
@@ -31,13 +34,14 @@ packet is named by its label, a step by its place among the script's steps, from
 device 2) and none; replies are a refusal as Ended, a status as STATUS_PENDING or 0x103, a number, done, standing, taken,
 lost, yes, busy and so on.
 
-Exit status: 0 done (--never: it never holds), 1 the script is refused, 2 --never: it holds in an order, 3 out of memory or
-a bound is met, 4 other words, 5 input or output failed.
+Exit status: 0 done (--never: it never holds; --right: every order is right), 1 the script is refused, 2 --never: it holds
+in an order, --right: one isn't right, 3 out of memory or a bound is met, 4 other words, 5 input or output failed.
 
 Examples:
   irp_orders examples/recipes/a_cancel_race.script
   irp_orders --show 2 examples/recipes/a_cancel_race.script | irp_view text
   irp_orders --never 'live(a) and owner(a) != ended' my.script
+  irp_orders --right my.words
 ";
 
 /// Writes the help.

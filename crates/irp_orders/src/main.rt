@@ -1,12 +1,14 @@
 //! The program that explores every order of a script's steps, and tells how they end.
 #![tactic(auto)]
 
+mod alike;
 mod answering;
 mod asked;
 mod conditions;
 mod differing;
 mod ending;
 mod ends;
+mod examining;
 mod exploring;
 mod facts;
 mod found;
@@ -17,9 +19,11 @@ mod in_words;
 mod input;
 mod names;
 mod never;
+mod right;
 mod steps;
 mod table;
 mod words;
+mod wrongs;
 
 use crate::answering::explore;
 use crate::asked::{Asked, Order, Unasked};

@@ -1,9 +1,10 @@
-//! Whether a condition holds in some order.
+//! Whether a condition holds in some order, and which order shows it.
 
 ghost use Rattle.std.specs.Prelude.{◌≡◌, ◌<◌, ◌≤◌, IfOk, IfSome, false, length, true};
 ghost use Rattle.std.specs.Option.{IsSomeAnd};
 ghost use Rattle.irp_orders.specs.Judging.{
   AreMarks,
+  IsBreach,
   IsShortestBelow,
   IsVerdict,
   steps_at,
@@ -22,7 +23,7 @@ use irp_machine::NotMade;
 use irp_script_reader::Step;
 use std::alloc::{AllocError, Global};
 
-/// Which outcomes make a condition hold, and one of these to be shown.
+/// Which outcomes break what is asked of orders, and one of these to be shown.
 #[derive(Drop)]
 pub struct Judgment {
     /// For each outcome, by its place, whether it does.
@@ -72,7 +73,7 @@ fn is_better(founds: &[Found], place: usize, best: Option<usize>) -> bool
 }
 
 /// The place of the marked outcome with the shortest path.
-fn shortest(founds: &[Found], marks: &[bool]) -> Option<usize>
+pub fn shortest(founds: &[Found], marks: &[bool]) -> Option<usize>
     requires { length marks.now ≡ length founds.now }
     ensures { IsShortestBelow founds.now marks.now (length founds.now) result }
 {
@@ -93,7 +94,7 @@ fn marks_of(
     condition: &Condition,
 ) -> Result<Vec<bool>, AllocError>
     ensures { IfOk result (λ marks.
-        AreMarks steps.now condition.now founds.now marks.items) }
+        AreMarks (IsBreach steps.now condition.now) founds.now marks.items) }
 {
     let mut marks = Vec::new(alloc);
     for found in founds {
@@ -111,9 +112,9 @@ pub fn judged(
     condition: &Condition,
 ) -> Result<Judgment, AllocError>
     ensures marks { IfOk result (λ judged.
-        AreMarks steps.now condition.now founds.now judged.marks.items) }
+        AreMarks (IsBreach steps.now condition.now) founds.now judged.marks.items) }
     ensures verdict { IfOk result (λ judged.
-        IsVerdict steps.now condition.now founds.now judged.shown) }
+        IsVerdict (IsBreach steps.now condition.now) founds.now judged.shown) }
 {
     let marks = marks_of(alloc, steps, founds, condition)?;
     let shown = shortest(founds, marks.as_slice());
@@ -130,7 +131,7 @@ fn put_seats(alloc: Global, out: &mut Vec<u8>, path: &[u32]) -> Result<(), Alloc
 }
 
 /// How many of the outcomes are marked, and how many orders lead to these.
-fn marked(founds: &[Found], marks: &[bool]) -> (usize, u128) {
+pub fn marked(founds: &[Found], marks: &[bool]) -> (usize, u128) {
     let (mut outcomes, mut orders) = (0usize, 0u128);
     for (found, mark) in founds.iter().zip(marks.iter()) {
         if *mark {
@@ -146,7 +147,7 @@ fn marked(founds: &[Found], marks: &[bool]) -> (usize, u128) {
 /// # Errors
 ///
 /// `NoStep` where its order can't be made again; `Memory` where memory ran out.
-fn put_shown(
+pub fn put_shown(
     alloc: Global,
     out: &mut Vec<u8>,
     columns: &Columns<'_>,

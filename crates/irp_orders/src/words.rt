@@ -33,19 +33,28 @@ fn command<'a>(alloc: Global) -> Result<Command<'a>, AllocError> {
         .arg(Arg::new(alloc, "file"))?
         .arg(flag(alloc, "ends"))?
         .arg(flag(alloc, "groups"))?
+        .arg(flag(alloc, "right"))?
         .arg(number(alloc, "states"))?
         .arg(number(alloc, "outcomes"))?
         .arg(number(alloc, "show"))?
         .arg(never)
 }
 
-/// What is to be told: one thing at most.
+/// What is to be told beside the table: one thing at most.
 fn task_of<'a>(matches: &ArgMatches<'a>) -> Result<Task<'a>, Unasked> {
     match (matches.get_one::<u64>("show"), matches.get_str("never")) {
         (None, None) => Ok(Task::Table),
         (Some(number), None) => Ok(Task::Show(number)),
         (None, Some(text)) => Ok(Task::Never(text)),
         (Some(_), Some(_)) => Err(Unasked::Usage),
+    }
+}
+
+/// What is to be told where the words ask whether every order is right: that alone.
+fn right_of<'a>(task: Task<'a>, by_ends: bool) -> Result<Task<'a>, Unasked> {
+    match task {
+        Task::Table if !by_ends => Ok(Task::Right),
+        _ => Err(Unasked::NotBesideRight),
     }
 }
 
@@ -59,9 +68,14 @@ fn number_of(matches: &ArgMatches<'_>, name: &str, missing: usize) -> usize {
 
 /// What clap's matches ask for.
 fn asked_of<'a>(matches: &ArgMatches<'a>) -> Result<Asked<'a>, Unasked> {
+    let by_ends = matches.get_flag("ends");
+    let mut task = task_of(matches)?;
+    if matches.get_flag("right") {
+        task = right_of(task, by_ends)?;
+    }
     let order = Order {
-        task: task_of(matches)?,
-        by_ends: matches.get_flag("ends"),
+        task,
+        by_ends,
         in_groups: matches.get_flag("groups"),
         states: number_of(matches, "states", MOST_STATES),
         outcomes: number_of(matches, "outcomes", MOST_OUTCOMES),

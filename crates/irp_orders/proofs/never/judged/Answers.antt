@@ -14,7 +14,7 @@ shortest-shown-requires c =
 
 pub returns-clause-verdict : goal.returns-clause-verdict
 returns-clause-verdict c =
-    verdict_from c.args.steps.now c.args.condition.now c.args.founds.now c.as_slice.result.now c.shortest-shown.result
-    (subst (λ (marks : List Bool). AreMarks c.args.steps.now c.args.condition.now c.args.founds.now marks)
+    verdict_from (IsBreach c.args.steps.now c.args.condition.now) c.args.founds.now c.as_slice.result.now c.shortest-shown.result
+    (subst (λ (marks : List Bool). AreMarks (IsBreach c.args.steps.now c.args.condition.now) c.args.founds.now marks)
     (sym c.as_slice.ensures.value) c.in_ok-marks.ensures)
     c.shortest-shown.ensures

@@ -1,0 +1,20 @@
+use Rattle.std.proofs.Common.{◌↔◌, ◌∙◌, Bool, length, ap, List, subst, sym}
+use Rattle.std.specs.Prelude.{IsTrue}
+use Rattle.std.proofs.lemmas.Slice.Zip.{AllZip-long}
+use Rattle.irp_orders.specs.Judging.{AreMarks, IsWrong}
+use Rattle.irp_orders.specs.declared.found.Found.{Found}
+use Rattle.irp_orders.proofs.Verdicts.{verdict_from}
+use Rattle.irp_orders.proofs.examining.judged_right.Goals as goal
+
+pub shortest-shown-requires : goal.shortest-shown-requires
+shortest-shown-requires c =
+    ap (λ (marks : List Bool). length marks) c.as_slice.ensures.value
+    ∙ AllZip-long (λ (found : Found) (mark : Bool). IsTrue mark ↔ IsWrong c.args.steps.now c.args.setup.now found)
+    c.args.founds.now c.in_ok-marks.marks.items c.in_ok-marks.ensures
+
+pub returns : goal.returns
+returns c =
+    verdict_from (IsWrong c.args.steps.now c.args.setup.now) c.args.founds.now c.as_slice.result.now c.shortest-shown.result
+    (subst (λ (marks : List Bool). AreMarks (IsWrong c.args.steps.now c.args.setup.now) c.args.founds.now marks)
+    (sym c.as_slice.ensures.value) c.in_ok-marks.ensures)
+    c.shortest-shown.ensures
