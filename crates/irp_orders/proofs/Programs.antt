@@ -23,7 +23,7 @@ use Rattle.irp_orders.specs.Conditions.{IsScopeOf, Says}
 use Rattle.irp_orders.specs.Ending.{of_unfound, of_unheard, of_unread}
 use Rattle.irp_orders.specs.Facts.{Meets}
 use Rattle.irp_orders.specs.Founds.{outcomes_of}
-use Rattle.irp_orders.specs.Judging.{IsTold, IsVerdict, verdict_ending}
+use Rattle.irp_orders.specs.Judging.{IsBreach, IsTold, IsVerdict, verdict_ending}
 use Rattle.irp_orders.specs.Exploring.{IsUnexplored, most_steps, tells}
 use Rattle.irp_orders.specs.Program.{Explores, IsAnswered, IsGivenUp, IsInput, IsRefused, IsUnjudged, IsUnread, Judges}
 use Rattle.irp_orders.specs.declared.asked.Order.{Order}
@@ -91,7 +91,7 @@ contained founds place found at =
 
 judged_by : (script : ScriptParts) (order : Order) (text : List ℕ) (founds : List Found) (condition : Condition) (shown : Option ℕ)
     → AreOutcomesOf script (tells order) (outcomes_of founds) → Says script (tells order) text condition
-    → IsVerdict script.steps condition founds shown → Judges script order text (verdict_ending shown)
+    → IsVerdict (IsBreach script.steps condition) founds shown → Judges script order text (verdict_ending shown)
 judged_by script order text founds condition None are says none = (
   outcomes_of founds,
   condition,

@@ -1,6 +1,6 @@
 -- How the program ends that was asked whether every order ends right.
-use Rattle.std.proofs.Common.{◌≡◌, ◌≢◌, ◌<◌, ◌≤◌, ℕ, zero, suc, Bool, true, false, List, Option, Some, None, length, get_or, refl, sym, subst, arith, tt, All, Contains}
-use Rattle.std.specs.Prelude.{⊤, slice_get}
+use Rattle.std.proofs.Common.{◌≡◌, ◌≤◌, ℕ, zero, suc, Bool, true, false, List, Option, Some, None, length, get_or, refl, sym, subst, arith, All}
+use Rattle.std.specs.Prelude.{⊤, ◌↔◌, IsTrue, not, slice_get}
 use Rattle.std.proofs.lemmas.List.Elements.{All-map}
 use Rattle.irp_types.specs.declared.entry.Entry.{Entry}
 use Rattle.irp_machine.specs.Orders.{AreOutcomesOf}
@@ -59,6 +59,12 @@ right_stable steps setup end held = record {
   without_routine =
       all_stable IsWithoutRoutine end.packets (λ live. none_stable live.cancel_routine) (λ no. held (λ right. no right.without_routine));
 }
+
+-- a mark tells that an outcome isn't right
+pub wrong_mark : (steps : List Step) (setup : List Entry) (found : Found) (right : Bool)
+    → ((right ≡ true) ↔ IsRight steps setup found.outcome.end) → IsTrue (not right) ↔ IsWrong steps setup found
+wrong_mark steps setup found true is = (λ no right. cc, λ wrong. absurd (wrong (is.0 refl)))
+wrong_mark steps setup found false is = (λ yes right. let same = is.1 right in cc, λ wrong. refl)
 
 -- ---- examining
 

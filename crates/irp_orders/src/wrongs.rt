@@ -58,15 +58,6 @@ impl fmt::Display for LiveName<'_> {
     }
 }
 
-/// The name of a live packet at the end of an outcome.
-fn name_of<'a>(columns: &Columns<'a>, found: &'a Found, live: &'a LiveEnd) -> LiveName<'a> {
-    LiveName {
-        live,
-        labels: columns.labels,
-        named: found.outcome.end.labels.as_slice(),
-    }
-}
-
 /// Puts the line of one thing that is wrong.
 fn put_wrong<T: fmt::Display>(
     alloc: Global,
@@ -119,16 +110,18 @@ fn put_refused(alloc: Global, out: &mut Vec<u8>, found: &Found) -> Result<(), Al
 /// A packet that a device has.
 #[derive(Clone, Copy)]
 struct KeptWords<'a> {
-    owner: Owner,
-    name: LiveName<'a>,
+    live: &'a LiveEnd,
+    labels: &'a [String],
+    named: &'a [IrpRef],
 }
 
 impl fmt::Display for KeptWords<'_> {
     fn fmt<W: fmt::Write>(&self, f: &mut fmt::Formatter<W>) -> fmt::Result {
-        match self.owner {
-            Owner::Device(device) => write!(f, "D{} has {}", device.0, self.name),
-            _ => write!(f, "nobody has {}", self.name),
+        let (live, labels, named) = (self.live, self.labels, self.named);
+        if let Owner::Device(device) = live.owner {
+            write!(f, "D{} has ", device.0)?;
         }
+        write!(f, "{}", LiveName { live, labels, named })
     }
 }
 
@@ -139,10 +132,15 @@ fn put_kept(
     columns: &Columns<'_>,
     found: &Found,
 ) -> Result<(), AllocError> {
-    for live in found.outcome.end.packets.as_slice() {
+    let end = &found.outcome.end;
+    for live in end.packets.as_slice() {
         if !is_back(live) {
-            let (owner, name) = (live.owner, name_of(columns, found, live));
-            put_wrong(alloc, out, &KeptWords { owner, name })?;
+            let words = KeptWords {
+                live,
+                labels: columns.labels,
+                named: end.labels.as_slice(),
+            };
+            put_wrong(alloc, out, &words)?;
         }
     }
     Ok(())
@@ -213,12 +211,16 @@ fn put_full(alloc: Global, out: &mut Vec<u8>, found: &Found) -> Result<(), Alloc
 /// A packet that still has a cancel routine.
 #[derive(Clone, Copy)]
 struct LeftWords<'a> {
-    name: LiveName<'a>,
+    live: &'a LiveEnd,
+    labels: &'a [String],
+    named: &'a [IrpRef],
 }
 
 impl fmt::Display for LeftWords<'_> {
     fn fmt<W: fmt::Write>(&self, f: &mut fmt::Formatter<W>) -> fmt::Result {
-        write!(f, "{} still has a cancel routine", self.name)
+        let (live, labels, named) = (self.live, self.labels, self.named);
+        let name = LiveName { live, labels, named };
+        write!(f, "{} still has a cancel routine", name)
     }
 }
 
@@ -229,10 +231,15 @@ fn put_left(
     columns: &Columns<'_>,
     found: &Found,
 ) -> Result<(), AllocError> {
-    for live in found.outcome.end.packets.as_slice() {
+    let end = &found.outcome.end;
+    for live in end.packets.as_slice() {
         if !is_without_routine(live) {
-            let name = name_of(columns, found, live);
-            put_wrong(alloc, out, &LeftWords { name })?;
+            let words = LeftWords {
+                live,
+                labels: columns.labels,
+                named: end.labels.as_slice(),
+            };
+            put_wrong(alloc, out, &words)?;
         }
     }
     Ok(())
