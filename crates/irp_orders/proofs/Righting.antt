@@ -76,7 +76,7 @@ examined_by script order founds setup None are set none = (
   setup,
   record { outcomes_are = are; set_up = set },
   All-map (λ (outcome : Outcome). IsRight script.steps setup outcome.end) (λ (found : Found). found.outcome) founds
-  (λ k d low. right_stable script.steps setup (get_or founds k d).outcome.end (none k d low)),
+      (λ k d low. right_stable script.steps setup (get_or founds k d).outcome.end (none k d low)),
 )
 examined_by script order founds setup (Some place) are set best = (
   outcomes_of founds,

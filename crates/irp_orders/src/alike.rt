@@ -49,7 +49,10 @@ fn without_use(answer: Answered) -> Answered
     ensures { result ≡ spec.without_use answer }
 {
     match answer {
-        Answered::Reply(Reply::Irp(_)) => Answered::Reply(Reply::Irp(IrpRef { slot: 0, use_no: 0 })),
+        Answered::Reply(Reply::Irp(_)) => Answered::Reply(Reply::Irp(IrpRef {
+            slot: 0,
+            use_no: 0,
+        })),
         Answered::Word(WordReply::Taken { .. }) => Answered::Word(WordReply::Taken { use_no: 0 }),
         other => other,
     }
@@ -195,11 +198,7 @@ fn pair(pairs: &mut Vec<(u64, u64)>, one: u64, other: u64) -> Result<bool, Alloc
 }
 
 /// Whether the uses at each place may be partners, which is noted.
-fn pair_all(
-    pairs: &mut Vec<(u64, u64)>,
-    ones: &[u64],
-    others: &[u64],
-) -> Result<bool, AllocError>
+fn pair_all(pairs: &mut Vec<(u64, u64)>, ones: &[u64], others: &[u64]) -> Result<bool, AllocError>
     requires { AreOneToOne pairs.old.items }
     ensures once { OnOk result (AreOneToOne pairs.new.items) }
     ensures partners { IfOk result (λ may.

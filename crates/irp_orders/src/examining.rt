@@ -136,11 +136,7 @@ fn told_right(
 /// # Errors
 ///
 /// `NoMemory` where memory ran out; `NoOrder` where an order can't be made again.
-fn examined(
-    alloc: Global,
-    script: &Script,
-    founds: &[Found],
-) -> Result<(Vec<u8>, Ending), Ending>
+fn examined(alloc: Global, script: &Script, founds: &[Found]) -> Result<(Vec<u8>, Ending), Ending>
     ensures told { IfOk result (λ told. IsExamined script.now founds.now told.1) }
     ensures untold { IfErr result IsUnexamined }
 {

@@ -1,9 +1,7 @@
 //! What isn't right of an outcome, in words.
 
 use crate::found::Found;
-use crate::right::{
-    is_accepted, is_back, is_empty, is_released, is_taken, is_without_routine,
-};
+use crate::right::{is_accepted, is_back, is_empty, is_released, is_taken, is_without_routine};
 use crate::table::Columns;
 use irp_listing::put_line;
 use irp_machine::{Answered, Holder, LiveEnd, LockEnd};
@@ -121,7 +119,15 @@ impl fmt::Display for KeptWords<'_> {
         if let Owner::Device(device) = live.owner {
             write!(f, "D{} has ", device.0)?;
         }
-        write!(f, "{}", LiveName { live, labels, named })
+        write!(
+            f,
+            "{}",
+            LiveName {
+                live,
+                labels,
+                named
+            }
+        )
     }
 }
 
@@ -219,7 +225,11 @@ struct LeftWords<'a> {
 impl fmt::Display for LeftWords<'_> {
     fn fmt<W: fmt::Write>(&self, f: &mut fmt::Formatter<W>) -> fmt::Result {
         let (live, labels, named) = (self.live, self.labels, self.named);
-        let name = LiveName { live, labels, named };
+        let name = LiveName {
+            live,
+            labels,
+            named,
+        };
         write!(f, "{} still has a cancel routine", name)
     }
 }

@@ -1,5 +1,4 @@
 use Rattle.std.proofs.Common.{◌≡◌, ◌<◌, ℕ, ap, arith, get_or, length, refl, true}
-
 use Rattle.irp_orders.proofs.Pairing.{extends_none, kept}
 use Rattle.irp_orders.proofs.alike.has_partner.Goals as goal
 use Rattle.irp_orders.proofs.alike.has_partner.Goals.{
@@ -17,11 +16,11 @@ returns-then-branch-clause-partner c = λ yes.
 pub loop-place-preserved : goal.loop-place-preserved
 loop-place-preserved c =
     elim c.else-is_as_far.branch [
-      else-is_as_far-via-then-is_as_far+in_ok-pair+else-branch w ↦
+      | else-is_as_far-via-then-is_as_far+in_ok-pair+else-branch w ↦
           let state = kept c.args.pairs.now.items c.loop-place.pairs.items w.pair.new.pairs.items c.else-is_as_far.pairs.items
           (rw w.pairs-is refl) w.in_ok-pair.ensures.once c.loop-place.invariant.more w.in_ok-pair.ensures.more in
           record { once = state.0; more = state.1 }
-    | else-is_as_far-via-else-is_as_far w ↦
+      | else-is_as_far-via-else-is_as_far w ↦
           let state = kept c.args.pairs.now.items c.loop-place.pairs.items c.loop-place.pairs.items c.else-is_as_far.pairs.items
           (rw w.pairs-is refl) c.loop-place.invariant.once c.loop-place.invariant.more
           (extends_none c.loop-place.pairs.items) in

@@ -24,7 +24,8 @@ loop-place-preserved c =
 
 pub returns-clause-partners : goal.returns-clause-partners
 returns-clause-partners c = λ yes.
-    let long : length c.args.ones.now ≤ c.loop-place.place = omega (arith, c.loop-place-test.false) in
-    (omega (arith, c.if-ones-others.false),
-     subst (λ (ones : List LiveEnd). All (λ one. Any (IsPartner c.loop-place.pairs.items one) c.args.others.now) ones)
-     (take_all c.loop-place.place c.args.ones.now long) c.loop-place.invariant.partners)
+    let long : length c.args.ones.now ≤ c.loop-place.place = omega (arith, c.loop-place-test.false) in (
+      omega (arith, c.if-ones-others.false),
+      subst (λ (ones : List LiveEnd). All (λ one. Any (IsPartner c.loop-place.pairs.items one) c.args.others.now) ones)
+          (take_all c.loop-place.place c.args.ones.now long) c.loop-place.invariant.partners,
+    )

@@ -1,0 +1,25 @@
+use Rattle.std.proofs.Common.{List, subst}
+use Rattle.std.proofs.lemmas.Result.{IfOk-weaker}
+use Rattle.irp_machine.specs.Orders.{AreOutcomesOf}
+use Rattle.irp_orders.specs.Exploring.{tells}
+use Rattle.irp_orders.specs.Founds.{outcomes_of}
+use Rattle.irp_orders.specs.Judging.{IsExamined}
+use Rattle.irp_orders.specs.Program.{Examines}
+use Rattle.irp_orders.specs.declared.asked.Order.{Order}
+use Rattle.irp_orders.specs.declared.found.Found.{Found}
+use Rattle.irp_orders.proofs.Righting.{examined_examines}
+use Rattle.irp_orders.proofs.examining.explore_and_examine.Goals as goal
+
+pub returns-in-Ok-clause-told : goal.returns-in-Ok-clause-told
+returns-in-Ok-clause-told c =
+    let script = c.args.script.now in
+    let order = c.args.order.now in
+    let founds = c.in-Ok.founds.items in
+    let outcomes =
+    subst (λ (order : Order). AreOutcomesOf c.args.script.now (tells order) (outcomes_of c.in-Ok.founds.items)) c.with_replies-order.ensures
+    c.in-Ok.ensures.outcomes in
+    IfOk-weaker c.examined.result (λ told. IsExamined script c.as_slice.result.now told.1) (λ told. Examines script order told.1)
+    (λ told is.
+    examined_examines script order founds told.1 outcomes
+    (subst (λ (founds : List Found). IsExamined script founds told.1) c.as_slice.ensures.value is))
+    c.examined.ensures.told
