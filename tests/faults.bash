@@ -38,17 +38,8 @@ tells() {
 
 for script in faults/*.script; do tells "$script"; done
 
-# Where irp_words refuses form 3 of scripts, the examples of that are left out.
-shopt -s extglob
-folders='*'
-small='{"form":3,"seats":1,"locks":1,"slots":0,"completions":[],"cancels":[],"dispatches":[],"drivers":[],"setup":[],"steps":[]}'
-if ! "$irp_words" words <<<"$small" >/dev/null 2>&1; then
-    folders='!(right)'
-    echo 'passed over, since irp_words refuses form 3 of scripts: the examples in right'
-fi
-
 # No example has a fault, and a step of theirs is warned of only where it is refused.
-for script in ../examples/$folders/*.script; do
+for script in ../examples/*/*.script; do
     "$irp_words" faults <"$script" >"$kept/told"
     meets "$script: a fault is told" [ $? -eq 0 ]
     [ -e "${script%.script}.transcript" ] || continue

@@ -32,17 +32,8 @@ form_of() {
 most=100000
 [ "${irp_words%.unproved}" = "$irp_words" ] || most=10000
 
-# Where irp_words refuses form 3 of scripts, the examples of that are left out.
-shopt -s extglob
-folders='*'
-small='{"form":3,"seats":1,"locks":1,"slots":0,"completions":[],"cancels":[],"dispatches":[],"drivers":[],"setup":[],"steps":[]}'
-if ! "$irp_words" words <<<"$small" >/dev/null 2>&1; then
-    folders='!(right)'
-    echo 'passed over, since irp_words refuses form 3 of scripts: the examples in right'
-fi
-
 # Each script there and back.
-for script in ../examples/$folders/*.script; do
+for script in ../examples/*/*.script; do
     [ "$(wc -c <"$script")" -le "$most" ] || continue
     "$irp_words" words "$script" >"$kept/words"
     meets "$script: words, status" [ $? -eq 0 ]
@@ -60,7 +51,7 @@ sys.exit(json.load(open(sys.argv[1])) != json.load(open(sys.argv[2])))' "$script
 done
 
 # Scripts that were written in words.
-for words in ../examples/$folders/*.words; do
+for words in ../examples/*/*.words; do
     "$irp_words" json "$words" >"$kept/json"
     meets "$words: status" [ $? -eq 0 ]
     form_of <"$kept/json" >"$kept/one"
