@@ -46,6 +46,8 @@ def wrong_place(sources, place):
     if not re.search(rf"\b({place['call']}|{OTHERS.get(place['call'], WRAPPED)}|{WRAPPED})\(", text):
         return f"{place['file']}:{place['line']} has no {place['call']}: {text}"
     function = function_at(lines, place["line"])
+    if place.get("under") == place["function"]:
+        return f"{place} is under itself"
     return NO_COMPLAINT if function == place["function"] else f"{place}, in {function}"
 
 

@@ -37,7 +37,8 @@ made = [{'bytes': len(text), 'cancels': names('C', len(head['cancels'])),
          'devices': ['bus <&>', 'filter'], 'dispatches': names('Dispatch', len(head['dispatches'])), 'entries': len(entries)}]
 for it in entries:
     asked = [at(1000 * it['n'] + turn) for turn in range(len(it['asked']))]
-    made.append({'asked': asked, 'by': {**at(it['n']), 'driver': 'other'} if it['n'] else {}, 'n': it['n']})
+    by = {**at(it['n']), 'driver': 'other'} if it['n'] else {}
+    made.append({'asked': asked, 'by': {**by, 'under': 'R<>'} if it['n'] == 2 else by, 'n': it['n']})
 open(path + '.places', 'w').write(''.join(json.dumps(it) + '\n' for it in made))
 ENDS
 }
@@ -63,6 +64,7 @@ asked=$(python3 -c 'import json, sys; print(sum(len(json.loads(it).get("asked", 
 meets 'each answer has its line' [ "$(grep -cE '\[a<b>&"c\.c:[0-9]+ in F<i>\]$' "$room/text")" -eq "$asked" ]
 meets 'answers have theirs in order' grep -qF "[a<b>&\"c.c:$((1000 * entry + 1)) in F<i>]" "$room/text"
 meets 'another call is named' grep -qF '[by IoCallDriver: a<b>&"c.c:1 in F<i>, other]' "$room/text"
+meets 'the routine that ran is named' grep -qF 'a<b>&"c.c:2 in F<i> under R<>, other]' "$room/text"
 meets 'where there is no place there is none' grep -qE '^ +0  .* -> D0 \[bus <&>\]$' "$room/text"
 ../bin/irp packet 0 1 --entries "$entry..$sent" "$kept" >"$room/packet"
 meets 'one packet' grep -qF "c.c:$entry in F<i>" "$room/packet"

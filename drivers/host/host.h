@@ -89,6 +89,7 @@ struct Entry {
     Asked *asked;
     int n, driver; /* driver: whose code made the call, or none */
     CallSite at;
+    const void *under; /* the dispatch or routine that ran, or NULL */
     size_t number;
     Reply reply;
     uint64_t answer;

@@ -12,6 +12,7 @@ void begun_here(Entry *e)
         return;
     e->at = (CallSite){ self.calls->at, self.calls->name };
     e->driver = calling_driver();
+    e->under = self.frames ? self.frames->fn : NULL;
 }
 
 /* Who was asked decides by the call that runs. */
@@ -63,6 +64,31 @@ static void put_place(FILE *o, const CallSite *at)
     fprintf(o, ",\"line\":%d", at->site.line);
 }
 
+/* The function at an address, or "?": a name is looked up once, mostly. */
+static const char *name_of(const void *address)
+{
+    static struct { const void *address; const char *name; } known[64];
+    const size_t i = (uintptr_t)address / 16 % 64;
+    if (known[i].address != address)
+        known[i].address = address, known[i].name = function_name(address);
+    return known[i].name;
+}
+
+static void put_caller(FILE *o, const Entry *e)
+{
+    put_place(o, &e->at);
+    if (!e->at.site.file || !e->at.call)
+        return;
+    if (e->driver >= 0) {
+        fputs(",\"driver\":", o);
+        put_string(o, drivers[e->driver]->HostName);
+    }
+    if (e->under && strcmp(name_of(e->under), e->at.site.function) && *name_of(e->under) != '?') {
+        fputs(",\"under\":", o);
+        put_string(o, name_of(e->under));
+    }
+}
+
 static void put_entry(FILE *o, const Entry *e)
 {
     fputs("{\"asked\":[", o);
@@ -72,11 +98,7 @@ static void put_entry(FILE *o, const Entry *e)
         fputs("}", o);
     }
     fputs("],\"by\":{", o);
-    put_place(o, &e->at);
-    if (e->at.site.file && e->at.call && e->driver >= 0) {
-        fputs(",\"driver\":", o);
-        put_string(o, drivers[e->driver]->HostName);
-    }
+    put_caller(o, e);
     fprintf(o, "},\"n\":%zu}\n", e->number);
 }
 

@@ -1,8 +1,8 @@
 /* A device that holds one read until it is cancelled, or until the next request comes.
  *
- * Why. IoCancelIrp that came before found no routine to call, so whoever sets the routine has to look at
+ * Why. An IoCancelIrp that came before found no routine to call, so whoever sets the routine has to look at
  * Irp->Cancel afterwards. If it is set, IoSetCancelRoutine(Irp, NULL) decides: it gives the routine to exactly one
- * of both. Not NULL: the routine will never run, and you complete the packet. NULL: it was called, waits for your
+ * of the two. Not NULL: the routine will never run, and you complete the packet. NULL: it was called, waits for your
  * lock, and completes the packet. */
 #include <wdm.h>
 

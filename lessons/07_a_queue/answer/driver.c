@@ -1,7 +1,7 @@
 /* A device whose reads wait in a queue; each write answers the oldest one.
  *
  * Why. A cancel calls the routine whenever it likes, and the routine then waits for your lock.
- * IoSetCancelRoutine(irp, NULL) gives the packet to exactly one of both. Not NULL: the read is the write's. NULL:
+ * IoSetCancelRoutine(irp, NULL) gives the packet to exactly one of the two. Not NULL: the read is the write's. NULL:
  * the routine has been called and takes the read out of the list itself, so leave it there and look at the next
  * one. Or take it out and make its entry a list of its own by InitializeListHead: then the routine's
  * RemoveEntryList does no harm. */
