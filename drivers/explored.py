@@ -10,13 +10,14 @@ import shutil
 import subprocess
 
 import orders
+import planted
 
 HERE = os.path.dirname(os.path.abspath(__file__))
 RACES = sorted(it[:-2] for it in os.listdir(HERE + "/races") if it.endswith(".c"))
 # Stacks at one round a loop: how many preemptions are exhausted, and up to how many the reduction is compared with none.
 STACKS = {"children": (2, 2), "keyboard": (1, 1), "late": (2, 2), "policy": (2, 2), "power": (1, 1), "removal": (1, 1),
           "retry": (2, 2), "serial": (2, 2), "split": (1, 1), "watchdog": (2, 2), "handover": (2, 1), "port": (2, 1),
-          "direct": (2, 2), "shared": (1, 1)}
+          "direct": (2, 2), "shared": (1, 1), "settings": (2, 2)}
 
 # An explorer with one thing wrong: a name, a file of the host, what is replaced by what, and where it shows: in a race that
 # it doesn't find with as few preemptions, in a right driver that isn't clean, or in a stack's number of classes.
@@ -57,12 +58,13 @@ WRONG = [
     ("one processor lets a thread go on below DISPATCH_LEVEL", "schedule.c", "return high ? ready & high : ready;",
      "return ready;", "race", "waits_high"),
     ("a device that waits for its routine keeps its extension meanwhile", "devices.c",
-     "    tell_running(d, self.frames);\n    let_go_of(devices", "    tell_running(d, self.frames);\n    (void)(devices", "race",
-     "released_early"),
+     "    let_extension_go(d, self.calls->at);\n    wait_for_host(has_left", "    wait_for_host(has_left", "race", "released_early"),
     ("a device doesn't wait for its routine", "devices.c", "if (devices[d].live && is_only_left_by_packets(d))",
      "if (!devices[d].live && is_only_left_by_packets(d))", "right", "released_early"),
     ("memory that was let go isn't told", "racing.c", "if (c->let_go && pc)", "if (c->let_go && pc && !by_schedule)", "race",
      "deleted_while_used"),
+    ("a device goes while its work item runs", "devices.c", "devices[d].goes = is_kept(d);",
+     "devices[d].goes = !is_kept(d) && is_kept(d);", "right", "deleted_while_used"),
 ]
 
 
@@ -175,6 +177,20 @@ def test_stack(run, bench, name):
     yield f"stack {name}, every order with {orders.plural(most, 'preemption')}", wrong_right(report) or not_legal(made)
     made.options.preemptions = compared
     yield f"stack {name}, the same classes without the reduction", wrong_classes(made)
+
+
+def test_shapes(run, bench):
+    """One request of each right shape, in every order: over a device that ends it later, and over all its endings where the
+    shape itself hands it on. Without either there is one order."""
+    options = Options(bench.cc, f"{HERE}/shapes/test.c", 2)
+    options.source = [HERE + "/shapes"]
+    made = Explored(run, bench, "orders of shapes", options)
+    for name in planted.RIGHT_SHAPES:
+        found = []
+        for ending in range(5) if name in ("ToAWorker", "WaitForAWorker", "SplitTransfer") else (1,):
+            options.args = f"{name} {ending}"
+            found.append(wrong_right(made.report()) or not_legal(made, 2))
+        yield f"shape {name}, every order with 2 preemptions", next(filter(None, found), None)
 
 
 def not_legal(made, most=6):
@@ -311,6 +327,7 @@ LOCKS = """#include <wdm.h>
 #include "wdm_test.h"
 #include <pthread.h>
 #include <semaphore.h>
+#include <stdio.h>
 #include <time.h>
 
 static sem_t one;
@@ -342,6 +359,12 @@ int main(void)
 {
     pthread_t t[2];
     struct timespec limit;
+    char *own = realloc(strdup("its own memory"), 100), *line = NULL;
+    size_t room = 0;
+    FILE *nothing = fopen("/dev/null", "r");
+    free(getline(&line, &room, nothing) < 0 && !strcmp(own, "its own memory") ? own : (char *)1);
+    free(line);
+    fclose(nothing);
     sem_init(&one, 0, 1);
     WdmSend(WdmCreateBottom(FALSE), IRP_MJ_READ, 0, 4);
     for (int i = 0; i < 2; i++)
@@ -360,7 +383,7 @@ int main(void)
 
 
 def test_locks(run, bench):
-    """A test's own semaphores, locks for readers and writers, and waits with a limit; and one without its semaphore."""
+    """A test's own semaphores, locks, waits with a limit, and memory; and one without its semaphore."""
     folder = bench.folder("own locks")
     for name, text, ended in (("right", LOCKS, "done"), ("wrong", re.sub(r"    sem_(wait|post)\(&one\);\n", "", LOCKS), "failed")):
         with open(f"{folder}/{name}.c", "w", encoding="utf-8") as it:
@@ -389,7 +412,8 @@ def tests(run, bench):
     found = [(f"race {it}", lambda it=it: test_race(run, bench, it)) for it in RACES]
     found += [(f"race {it} right", lambda it=it: test_right(run, bench, it)) for it in RACES]
     found += [(f"orders {it}", lambda it=it: test_stack(run, bench, it)) for it in STACKS]
-    found += [("untested under every order", lambda: test_untested(run, bench)),
+    found += [("orders of shapes", lambda: test_shapes(run, bench)),
+              ("untested under every order", lambda: test_untested(run, bench)),
               ("orders in parts", lambda: test_parts(run, bench)), ("orders stopped", lambda: test_stopped(run, bench)),
               ("orders distinct", lambda: test_distinct(run, bench)),
               ("orders by chance", lambda: test_chance(run, bench)), ("orders with a test's own locks",

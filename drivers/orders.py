@@ -16,7 +16,8 @@ import tempfile
 RENAMED = ["pthread_create", "pthread_join", "pthread_detach", "pthread_self", "pthread_exit", "pthread_mutex_lock",
            "pthread_mutex_unlock", "pthread_mutex_trylock", "pthread_cond_wait", "pthread_cond_timedwait", "pthread_cond_signal", "pthread_cond_broadcast", "sched_yield",
            "usleep", "nanosleep", "sem_wait", "sem_trywait", "sem_post", "pthread_rwlock_rdlock",
-           "pthread_rwlock_wrlock", "pthread_rwlock_unlock", "memcpy", "memset", "memmove", "malloc", "calloc", "free"]
+           "pthread_rwlock_wrlock", "pthread_rwlock_unlock", "memcpy", "memset", "memmove", "malloc", "calloc", "realloc",
+           "strdup", "free"]
 # The sanitizer's compiler pass, and hooks of the host's in place of its library.
 FLAGS = ["-fsanitize=thread", *(f"-D{it}=wdm_{it}" for it in RENAMED)]
 MANY = 200  # decisions of a run, from which on a test is told to be made smaller

@@ -114,7 +114,7 @@ FAULTS = [
     sample("own packet with too few locations", "toaster.c", [(OWN, TOO_SHORT + OWN)],
            ["TooShort (0x35)", "toaster.c:", "ToasterControl", "IoCallDriver"], refused="TooShort"),
     sample("filter completes what it has sent", "filter.c",
-           [(FILTER_SEND, FILTER_FORWARD + "    NTSTATUS status = IoCallDriver(ext->Lower, Irp);\n"
+           [(FILTER_SEND, FILTER_FORWARD + "    status = IoCallDriver(ext->Lower, Irp);\n"
              "    IoCompleteRequest(Irp, IO_NO_INCREMENT);\n    return status;\n")],
            ["NotOwner ", "filter.c:", "FilterRead, dispatch for READ of D2 (filter)",
             "by D2 (filter), which D0 (bus) has"],

@@ -5,16 +5,25 @@ enum { FIRST_UNKNOWN = 0x1a, RESERVED = 0x0e };
 
 static bool is_unknown(UCHAR minor) { return minor >= FIRST_UNKNOWN || minor == RESERVED; }
 
+/* The bytes that a control may say: of METHOD_IN_DIRECT both buffers go to the device, and nothing comes back. */
+static uint64_t room_of_control(const IO_STACK_LOCATION *l)
+{
+    const ULONG in = l->Parameters.DeviceIoControl.InputBufferLength;
+    const ULONG out = l->Parameters.DeviceIoControl.OutputBufferLength;
+    switch (METHOD_FROM_CTL_CODE(l->Parameters.DeviceIoControl.IoControlCode)) {
+    case METHOD_NEITHER: return UINT64_MAX;
+    case METHOD_IN_DIRECT: return in > out ? in : out;
+    default: return out;
+    }
+}
+
 /* The bytes that may come back, by the location of whoever completes; or all of them where that isn't known. */
 static uint64_t room_of(const IO_STACK_LOCATION *l)
 {
     switch (l->MajorFunction) {
     case IRP_MJ_READ:
     case IRP_MJ_WRITE: return l->Parameters.Read.Length;
-    case IRP_MJ_DEVICE_CONTROL:
-        if (METHOD_FROM_CTL_CODE(l->Parameters.DeviceIoControl.IoControlCode) != METHOD_NEITHER)
-            return l->Parameters.DeviceIoControl.OutputBufferLength;
-        return UINT64_MAX;
+    case IRP_MJ_DEVICE_CONTROL: return room_of_control(l);
     default: return UINT64_MAX;
     }
 }

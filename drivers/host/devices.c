@@ -114,6 +114,42 @@ static const char *gone_text(int d)
     return text;
 }
 
+/* As in Windows, a deleted device is there until its work items have returned, and no reference to it is left. */
+static bool is_kept(int d)
+{
+    touch(&devices[d].items, SYNCS);
+    touch(devices[d].raw, READS);
+    return devices[d].items || is_referenced(devices[d].raw);
+}
+
+static void let_extension_go(int d, WDM_SITE at)
+{
+    devices[d].goes = is_kept(d);
+    devices[d].deleted = at;
+    if (!devices[d].goes)
+        let_go_of(devices[d].extension, devices[d].extension_size, "the extension of a device", at);
+}
+
+/* What may have kept a device keeps it no more. */
+void may_go(int d)
+{
+    if (devices[d].goes)
+        let_extension_go(d, devices[d].deleted);
+}
+
+void item_is_queued(int d)
+{
+    touch(&devices[d].items, SYNCS);
+    devices[d].items++;
+}
+
+void item_has_returned(int d)
+{
+    touch(&devices[d].items, SYNCS);
+    devices[d].items--;
+    may_go(d);
+}
+
 static void take_off_list(PDEVICE_OBJECT device)
 {
     PDEVICE_OBJECT *at = &device->DriverObject->DeviceObject;
@@ -142,8 +178,7 @@ static void delete_now(int d, const Frame *mine)
         tell_work_queued(d);
         devices[d].live = false;
         take_off_list(devices[d].raw);
-        let_go_of(devices[d].raw->DeviceExtension, devices[d].raw->HostExtensionSize, "the extension of a device",
-                  self.calls->at);
+        let_extension_go(d, self.calls->at);
         forget_names(devices[d].raw);
         answered(e, DONE, 0);
         check_gone(devices[d].raw->DeviceExtension, devices[d].raw->HostExtensionSize, gone_text(d));
@@ -271,8 +306,7 @@ static void touch_packets(void)
 static void wait_for_routines(int d)
 {
     tell_running(d, self.frames);
-    let_go_of(devices[d].raw->DeviceExtension, devices[d].raw->HostExtensionSize, "the extension of a device",
-              self.calls->at);
+    let_extension_go(d, self.calls->at);
     wait_for_host(has_left, &devices[d]);
     touch(&devices[d].running, SYNCS);
     touch_packets();

@@ -12,6 +12,7 @@
 bool footprints, hooks_present;
 typedef struct { const void *object; uint64_t written, read; uint32_t clock[FEW_THREADS]; } Object;
 enum { OBJECTS = 1 << 15, PLACES = 1 << 16, FEWEST_PLACES = 1 << 11, ROOM = 4 << 20 };
+static const uintptr_t MEMORY = 0x200000000000;
 static const uint64_t GOLDEN = 0x9E3779B97F4A7C15u;
 /* Dense, since each page that a run touches is a fault: most runs have few threads. */
 static Object objects[OBJECTS];
@@ -86,7 +87,7 @@ void *host_memory(size_t size)
     if (!by_schedule)
         return calloc(1, size);
     if (!all)
-        all = mmap((void *)0x200000000000, (size_t)MAX_THREADS * ROOM, PROT_READ | PROT_WRITE,
+        all = mmap((void *)MEMORY, (size_t)MAX_THREADS * ROOM, PROT_READ | PROT_WRITE,
                    MAP_PRIVATE | MAP_ANONYMOUS | MAP_NORESERVE, -1, 0);
     if (all == MAP_FAILED)
         give_up("out of memory");
@@ -99,12 +100,28 @@ void *host_memory(size_t size)
     return p + 16;
 }
 
+/* What the library has allocated itself, as for getline, goes back there. */
+static bool is_host_memory(const void *memory) { return (uintptr_t)memory - MEMORY < (uintptr_t)MAX_THREADS * ROOM; }
+
 void free_host_memory(void *memory)
 {
-    if (!by_schedule)
+    if (!is_host_memory(memory))
         free(memory);
-    else if (memory)
+    else
         let_go_of(memory, ((size_t *)memory)[-2], "memory", self.calls ? self.calls->at : (WDM_SITE){ 0 });
+}
+
+void *resize_host_memory(void *memory, size_t size)
+{
+    if (memory ? !is_host_memory(memory) : !by_schedule)
+        return realloc(memory, size);
+    const size_t before = memory ? ((size_t *)memory)[-2] : 0;
+    void *new = host_memory(size);
+    if (new && memory) {
+        memcpy(new, memory, before < size ? before : size);
+        free_host_memory(memory);
+    }
+    return new;
 }
 
 /* Where the main thread's stack lies depends on the environment. */

@@ -90,4 +90,10 @@ COPY(__tsan_memcpy, memcpy) COPY(__tsan_memmove, memmove) FILL(__tsan_memset)
 
 HOOK(void *, wdm_malloc, size_t n) { return host_memory(n); }
 HOOK(void *, wdm_calloc, size_t k, size_t n) { return host_memory(k * n); }
+HOOK(void *, wdm_realloc, void *p, size_t n) { return resize_host_memory(p, n); }
+HOOK(char *, wdm_strdup, const char *s)
+{
+    char *made = host_memory(strlen(s) + 1);
+    return made ? strcpy(made, s) : NULL;
+}
 HOOK(void, wdm_free, void *p) { free_host_memory(p); }

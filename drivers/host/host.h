@@ -199,7 +199,9 @@ typedef struct {
     PVOID extension;
     ULONG extension_size;
     WDM_SITE created;
-    WDM_SITE deleted; /* where its delete was called that waits for the device above */
+    WDM_SITE deleted; /* where its delete was called that waits for the device above, or for what keeps its extension */
+    int items;        /* its work items that are queued or run */
+    bool goes;        /* it is deleted, and its extension goes with the last of these, and of the references to it */
 } Device;
 
 /* A call of the host that runs on this thread. */
@@ -208,6 +210,7 @@ typedef struct Call {
     const char *name;
     WDM_SITE at;
     bool is_entered; /* it stands where the driver made it: its callers are above it on the stack */
+    bool is_access;  /* it is an access of memory, and its name says at which place */
 } Call;
 
 typedef struct {
@@ -314,6 +317,9 @@ void work_done(void);
 bool workers_are_idle(void), plug_and_play_is_idle(void);
 void after_work_items(void);
 bool has_work(int device);
+void item_is_queued(int device);
+void item_has_returned(int device);
+void may_go(int device);
 void after_work_items(void);
 void tell_work_queued(int device);
 bool is_bottom(PDEVICE_OBJECT device);

@@ -70,6 +70,9 @@ LONG_PTR WdmObDereferenceObject(PVOID Object, WDM_SITE at)
     if (count < 0)
         fault("NotReferenced", NULL, "%s is dereferenced, and no reference to it is left: it may be gone already",
               object_name(Object));
+    for (int d = 0; !count && d < n_devices; d++)
+        if (devices[d].raw == Object)
+            may_go(d);
     leave_host();
     if (!count)
         tell_files_dereferenced(Object);

@@ -97,7 +97,7 @@ static void tell_let_go(Cell *c, bool writes, const void *pc)
     char where[200];
     c->let_go = NULL;
     snprintf(where, sizeof where, "+0x%lx in %s", place_in_program((const char *)pc - 1), function_name(pc));
-    Call here = { .name = where }, *const calls = self.calls;
+    Call here = { .name = where, .is_access = true }, *const calls = self.calls;
     self.calls = &here;
     broken("UsedAfterFree", NULL, "%s %s, which %s let go%s%s", writes ? "writes" : "reads", what,
            thread_name(c->let_go_by), c->let_go_at.file ? " at " : "", c->let_go_at.file ? place(c->let_go_at) : "");

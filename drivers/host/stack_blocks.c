@@ -1,11 +1,17 @@
-/* stack_blocks.c: a packet's IoStatusBlock or event on the stack of a dispatch, or of a routine, that returns before the
-   packet has ended. What lies there then is another's: it is told, and not written to. */
+/* stack_blocks.c: what lies on the stack of a dispatch, or of a routine, that has returned: a packet's IoStatusBlock or event
+   while the packet is in flight, and an event that somebody sets. What lies there then is another's: it is told, and not
+   written to. */
 #include "host.h"
 
 enum { MOST = 256 };
 typedef struct { Packet *p; uint64_t use; const Frame *status_of, *event_of; } Blocks;
 static Blocks blocks[MOST];
 static int n_blocks;
+/* Events that a dispatch or routine initialized on its stack. `of` is NULL once that has returned. */
+typedef struct { const void *event; const Frame *of; char whose[120]; } Local;
+static Local locals[MOST];
+static int n_locals, n_reused;
+static pthread_mutex_t locals_lock = PTHREAD_MUTEX_INITIALIZER;
 
 /* In the call of which frame of this thread the address lies on its stack, or NULL. */
 static const Frame *frame_of(const void *at)
@@ -31,9 +37,56 @@ void remember_blocks(Packet *p)
         blocks[n_blocks++] = new;
 }
 
+static Local *local_at(const void *event)
+{
+    for (int i = 0; i < n_locals; i++)
+        if (locals[i].event == event)
+            return &locals[i];
+    return NULL;
+}
+
+/* An event is initialized on this thread: what was there before is over. */
+void remember_event(const void *event)
+{
+    pthread_mutex_lock(&locals_lock);
+    const Frame *f = frame_of(event);
+    Local *l = local_at(event);
+    if (!l && f)
+        l = &locals[n_locals < MOST ? n_locals++ : n_reused++ % MOST];
+    if (l)
+        *l = (Local){ .event = f ? event : NULL, .of = f };
+    pthread_mutex_unlock(&locals_lock);
+}
+
+static void events_are_over(const Frame *f)
+{
+    pthread_mutex_lock(&locals_lock);
+    for (int i = 0; i < n_locals; i++)
+        if (locals[i].of == f) {
+            touch(locals[i].event, WRITES);
+            locals[i].of = NULL;
+            snprintf(locals[i].whose, sizeof locals[i].whose, "%s", what_runs(f));
+        }
+    pthread_mutex_unlock(&locals_lock);
+}
+
+/* Whether the event lies where a dispatch or routine has returned, which is told. Under G. */
+bool is_over_event(const void *event)
+{
+    pthread_mutex_lock(&locals_lock);
+    const Local *l = local_at(event), found = l ? *l : (Local){ .of = self.frames };
+    pthread_mutex_unlock(&locals_lock);
+    if (!l || found.of)
+        return false;
+    touch(event, READS);
+    fault("StackBlock", NULL, "the event lies on the stack of %s, which has returned; not written to", found.whose);
+    return true;
+}
+
 /* The dispatch or routine of this frame has returned. */
 void check_blocks(const Frame *f)
 {
+    events_are_over(f);
     for (int i = 0; i < n_blocks; i++) {
         const Blocks b = blocks[i];
         if (is_over(&b) || (b.status_of != f && b.event_of != f))

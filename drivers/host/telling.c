@@ -72,7 +72,7 @@ static const struct { const char *rule, *known; } known_as[] = {
     { "AlreadyCancelled", "if (Irp->Cancel && IoSetCancelRoutine(Irp, NULL)) complete it" },
     { "CancelledAndHeld", "nobody ends it" },
     { "Overwritten", "only the I/O manager writes there" },
-    { "StackBlock", "it's written to at the packet's end" }, { "NoLocation", "whoever allocated it has no location" },
+    { "StackBlock", "what lies there is another's by then" }, { "NoLocation", "whoever allocated it has no location" },
 };
 
 static const char *expected[64];
@@ -233,7 +233,9 @@ void fault(const char *rule, const Packet *p, const char *how, ...)
     n_faults++;
     if (was_told(rule, c ? c->at : (WDM_SITE){ 0 }, f ? f->fn : NULL))
         return;
-    if (!c || !c->at.file)
+    if (c && c->is_access && f)
+        snprintf(where, sizeof where, "%s (under %s)", c->name, what_runs(f));
+    else if (!c || !c->at.file)
         snprintf(where, sizeof where, "%s", f ? what_runs(f) : c ? c->name : "the host");
     else if (f)
         snprintf(where, sizeof where, "%s in %s%s (under %s): %s", place(c->at), c->at.function, callers_of(c),

@@ -70,6 +70,7 @@ void touch_memory(const void *from, size_t size, Touch how);
 /* Memory of zeros, or NULL. Under a schedule its address is the same in each order, and it is used only once. */
 void *host_memory(size_t size);
 void free_host_memory(void *memory);
+void *resize_host_memory(void *memory, size_t size);
 
 /* Memory that is let go: who uses it from now on is told, where accesses are seen. `what` is kept. */
 void let_go_of(const void *from, size_t size, const char *what, WDM_SITE at);

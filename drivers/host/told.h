@@ -41,6 +41,8 @@ void tell_unreached(FILE *out);
 /* own_memory.c, stack_blocks.c */
 void remember_blocks(Packet *p);
 void check_blocks(const Frame *f);
+void remember_event(const void *event);
+bool is_over_event(const void *event);
 int device_number(const DEVICE_OBJECT *device);
 void check_devices(void);
 void check_packet(Packet *p);

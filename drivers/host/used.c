@@ -5,19 +5,11 @@ static int gone_device(const void *object)
 {
     for (int i = 0; i < n_devices; i++) {
         const char *from = devices[i].extension;
-        if (!devices[i].live && (const char *)object >= from && (const char *)object < from + devices[i].extension_size)
+        const bool is_gone = !devices[i].live && !devices[i].goes;
+        if (is_gone && (const char *)object >= from && (const char *)object < from + devices[i].extension_size)
             return i;
     }
     return NOBODY;
-}
-
-/* Whether a work item of the device runs on this thread: while it does, the device's memory stays. */
-static bool runs_item_of(int device)
-{
-    for (const Frame *f = self.frames; f; f = f->up)
-        if (f->kind == WORK && f->device == device)
-            return true;
-    return false;
 }
 
 /* Under G: a call uses this object. */
@@ -29,6 +21,6 @@ void check_used(const void *object, const char *kind)
         broken("UsedInFreedMemory", NULL, "the %s lies in the %s, which was freed at %s", kind, block_text(b),
                place(b->released));
         open_pages(b);
-    } else if (d >= 0 && !runs_item_of(d))
+    } else if (d >= 0)
         broken("UsedInFreedMemory", NULL, "the %s lies in the extension of %s, which is deleted", kind, who(d));
 }

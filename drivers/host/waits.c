@@ -34,6 +34,7 @@ static LONG change(DISPATCHER_HEADER *h, LONG state, bool add)
 VOID WdmKeInitializeEvent(PKEVENT e, EVENT_TYPE type, BOOLEAN state)
 {
     make(&e->Header, EVENT, type == SynchronizationEvent, state != 0);
+    remember_event(e);
 }
 
 bool is_event(const void *object) { return ((const DISPATCHER_HEADER *)object)->Type == EVENT; }
@@ -118,8 +119,9 @@ LONG WdmKeSetEvent(PKEVENT e, WDM_SITE at)
     enter_host(&c, "KeSetEvent", at);
     check_used(e, "event");
     hands_over();
+    const bool is_over = is_over_event(e);
     leave_host();
-    return change(&e->Header, 1, false);
+    return is_over ? 0 : change(&e->Header, 1, false);
 }
 
 /* What a wait is for, under W. */

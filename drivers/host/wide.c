@@ -132,11 +132,17 @@ unsigned long WdmWcstoul(const WCHAR *s, WCHAR **end, int base)
 
 int WdmWtoi(const WCHAR *s) { return (int)WdmWcstol(s, NULL, 10); }
 
+/* Without a buffer it returns how many it would write. As on Windows, the caller may use its list again. */
 int WdmVswprintf(WCHAR *to, size_t room, const WCHAR *format, va_list list)
 {
     char bytes[4096];
-    const size_t n = print_wide(bytes, sizeof bytes, format, list);
+    va_list its;
+    va_copy(its, list);
+    const size_t n = print_wide(bytes, sizeof bytes, format, its);
     const size_t count = to_wide(NULL, 0, bytes, n);
+    va_end(its);
+    if (!to)
+        return (int)count;
     if (!room)
         return -1;
     const size_t written = to_wide(to, room - 1, bytes, n);

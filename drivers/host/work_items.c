@@ -82,6 +82,7 @@ static void *work(void *context)
         run_work(&f, device->DriverObject->HostNumber);
         routine(device, its);
         work_done();
+        item_has_returned(device->HostNumber);
     }
     return NULL;
 }
@@ -135,6 +136,7 @@ VOID WdmIoQueueWorkItem(PIO_WORKITEM Item, PIO_WORKITEM_ROUTINE Routine, PVOID C
         Item->context = Context;
         Item->queued = true;
         Item->next = NULL;
+        item_is_queued(Item->device->HostNumber);
         if (last_item)
             last_item->next = Item;
         else

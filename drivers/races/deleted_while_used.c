@@ -1,29 +1,42 @@
-/* deleted_while_used.c: 1 preemption, UsedAfterFree. The work item counts in the extension after it has completed the last
-   packet. It is preempted between both, and the device is removed and deleted there. */
+/* deleted_while_used.c: 1 preemption, UsedAfterFree. A deferred call counts in the extension after it has completed the last
+   packet. It is preempted between both, and the device is removed and deleted there. In the right one a work item does the
+   same: Windows keeps a device until its work items have returned. */
 #include "race.h"
 
-typedef struct { PDEVICE_OBJECT Lower; PIRP Current; LONG Done; } EXTENSION, *PEXTENSION;
+typedef struct { PDEVICE_OBJECT Lower; PIRP Current; KDPC Dpc; LONG Done; } EXTENSION, *PEXTENSION;
 
+static VOID EndRead(PEXTENSION Ext)
+{
+    Complete(Ext->Current, STATUS_SUCCESS, 0);
+    InterlockedIncrement(&Ext->Done); /* the fault, unless something keeps the device */
+}
+
+#ifdef RIGHT
 static VOID Work(PDEVICE_OBJECT DeviceObject, PVOID Context)
 {
-    PEXTENSION ext = DeviceObject->DeviceExtension;
     IoFreeWorkItem(Context);
-#ifdef RIGHT
-    InterlockedIncrement(&ext->Done);
-    Complete(ext->Current, STATUS_SUCCESS, 0);
-#else
-    Complete(ext->Current, STATUS_SUCCESS, 0);
-    InterlockedIncrement(&ext->Done); /* the fault */
-#endif
+    EndRead(DeviceObject->DeviceExtension);
 }
+#else
+static VOID Called(PKDPC Dpc, PVOID Context, PVOID A, PVOID B)
+{
+    UNREFERENCED_PARAMETER(Dpc), UNREFERENCED_PARAMETER(A), UNREFERENCED_PARAMETER(B);
+    EndRead(Context);
+}
+#endif
 
 static NTSTATUS Read(PDEVICE_OBJECT DeviceObject, PIRP Irp)
 {
     PEXTENSION ext = DeviceObject->DeviceExtension;
-    PIO_WORKITEM item = IoAllocateWorkItem(DeviceObject);
     IoMarkIrpPending(Irp);
     ext->Current = Irp;
+#ifdef RIGHT
+    PIO_WORKITEM item = IoAllocateWorkItem(DeviceObject);
     IoQueueWorkItem(item, Work, DelayedWorkQueue, item);
+#else
+    KeInitializeDpc(&ext->Dpc, Called, ext);
+    KeInsertQueueDpc(&ext->Dpc, NULL, NULL);
+#endif
     return STATUS_PENDING;
 }
 

@@ -102,9 +102,14 @@ static NTSTATUS ToasterStarted(PDEVICE_OBJECT DeviceObject, PIRP Irp, PVOID Cont
 static NTSTATUS ToasterPower(PDEVICE_OBJECT DeviceObject, PIRP Irp)
 {
     PFDO_EXTENSION ext = DeviceObject->DeviceExtension;
+    NTSTATUS status = IoAcquireRemoveLock(&ext->RemoveLock, Irp);
     PoStartNextPowerIrp(Irp);
+    if (!NT_SUCCESS(status))
+        return ToasterFail(Irp, status);
     IoSkipCurrentIrpStackLocation(Irp);
-    return PoCallDriver(ext->Lower, Irp);
+    status = PoCallDriver(ext->Lower, Irp);
+    IoReleaseRemoveLock(&ext->RemoveLock, Irp);
+    return status;
 }
 
 /* Reads and writes go down; the routine gives the remove lock back. */

@@ -8,7 +8,7 @@ docs/CANCEL_SLOTS.md.
 import collections
 import math
 
-from conditions_of_steps import heard_in, holds
+from conditions_of_steps import REFUSED_WORDS, heard_in, holds
 from json_texts import compact
 from running import UNBOUND, Runner
 
@@ -198,9 +198,6 @@ def replies_of(script, lines):
 def outcome_of(stepper):
     """Returns the outcome of an order that was made: the replies, what is left in the manager, and what else is left."""
     return replies_of(stepper.script, stepper.lines()[1:]), manager_end(stepper.manager), other_end(stepper)
-
-
-REFUSED_WORDS = ('seat_full', 'not_held', 'already_removing', 'no_lock', 'used', 'not_standing', 'no_slot', 'no_token')
 
 
 def is_refused(reply):

@@ -10,10 +10,9 @@ use Rattle.std.specs.List.Sorted.{IsPermutation}
 use Rattle.std.specs.Option.{IsSomeAnd, option_map}
 use Rattle.irp_machine.specs.declared.outcome.Outcome.{Outcome}
 use Rattle.irp_plain.specs.declared.answered.Answered.{Answered}
-use Rattle.irp_script_reader.specs.declared.act.Step.{Step}
 use Rattle.irp_orders.specs.Alike.{AreAlike}
 use Rattle.irp_orders.specs.Founds.{outcomes_of}
-use Rattle.irp_orders.specs.Rows.{IsAnswered, IsOwn, members_of, most_orders, all_orders, IsGroup, AreGroupedBy, AreGrouped, AreMadeOf, joined_row, Joins}
+use Rattle.irp_orders.specs.Rows.{IsOwn, members_of, most_orders, all_orders, IsGroup, AreGroupedBy, AreGrouped, AreMadeOf, joined_row, Joins}
 use Rattle.irp_orders.specs.declared.found.Found.{Found}
 
 members_more : (group : ℕ) (founds : List Found) (numbers : List ℕ) (found : Found) (number : ℕ) → length numbers ≡ length founds

@@ -1,9 +1,8 @@
 -- Partners that are noted.
-use Rattle.std.proofs.Common.{ℕ, ◌≡◌, ◌≢◌, ◌<◌, ◌≤◌, ◌+◌, ◌⊎◌, inl, inr, ◌∙◌, ap, sym, subst, List, [], ◌∷◌, ◌++◌, length, take, get_or, All, Any, Contains, append_assoc}
+use Rattle.std.proofs.Common.{ℕ, ◌≡◌, ◌<◌, ◌≤◌, ◌+◌, inl, inr, ◌∙◌, ap, sym, subst, List, [], ◌∷◌, ◌++◌, length, take, get_or, All, Any, Contains, append_assoc}
 use Rattle.std.specs.List.{AllZip}
 use Rattle.std.proofs.lemmas.List.{append-nil, take_all, take_more}
-use Rattle.std.proofs.lemmas.List.Elements.{All-more, Contains-append_left, Contains-get_or, Contains-push}
-use Rattle.std.proofs.lemmas.List.Quantifiers.{all_pairs_push}
+use Rattle.std.proofs.lemmas.List.Elements.{All-more, Contains-append_left}
 use Rattle.std.proofs.lemmas.Slice.Zip.{all_zipped_more}
 use Rattle.irp_machine.specs.declared.live_end.LiveEnd.{LiveEnd}
 use Rattle.irp_orders.specs.Alike.{AreAlike, AreOneToOne, ArePacketsAlike, ArePartners, AreSameButUses, Extends, IsPartner, uses_of}

@@ -1,17 +1,13 @@
 -- How the program ends that was asked whether every order ends right.
-use Rattle.std.proofs.Common.{◌≡◌, ◌≤◌, ℕ, zero, suc, Bool, true, false, List, Option, Some, None, length, get_or, refl, sym, subst, arith, All}
-use Rattle.std.specs.Prelude.{⊤, ◌↔◌, IsTrue, not, slice_get}
+use Rattle.std.proofs.Common.{◌≡◌, ◌≤◌, ℕ, zero, suc, Bool, true, false, List, Option, Some, None, get_or, refl, sym, subst, arith, All}
+use Rattle.std.specs.Prelude.{◌↔◌, IsTrue, not}
 use Rattle.std.proofs.lemmas.List.Elements.{All-map}
 use Rattle.irp_types.specs.declared.entry.Entry.{Entry}
 use Rattle.irp_machine.specs.Orders.{AreOutcomesOf}
 use Rattle.irp_machine.specs.declared.limits.NotMade.{NotMade}
 use Rattle.irp_machine.specs.declared.limits.NotMade.TheVariants as made
-use Rattle.irp_machine.specs.declared.live_end.LiveEnd.{LiveEnd}
 use Rattle.irp_machine.specs.declared.outcome.End.{End}
-use Rattle.irp_machine.specs.declared.outcome.LockEnd.{LockEnd}
 use Rattle.irp_machine.specs.declared.outcome.Outcome.{Outcome}
-use Rattle.irp_machine.specs.declared.outcome.SlotEnd.{SlotEnd}
-use Rattle.irp_plain.specs.declared.answered.Answered.{Answered}
 use Rattle.irp_script_reader.specs.declared.act.Step.{Step}
 use Rattle.irp_script_reader.specs.declared.script.ScriptParts.{ScriptParts}
 use Rattle.irp_orders.specs.Ending.{of_unmade}

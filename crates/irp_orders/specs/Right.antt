@@ -1,6 +1,6 @@
 -- What is right of an end: no step was refused, each packet that was sent has come back, no remove lock is held, no
 -- cancel slot is full, and no cancel routine is left.
-use Rattle.std.specs.Prelude.{ℕ, ◌≡◌, ◌≤◌, Bool, true, false, List, [], Option, None, All}
+use Rattle.std.specs.Prelude.{◌≡◌, ◌≤◌, Bool, true, false, List, [], Option, None, All}
 use Rattle.std.specs.Option.{option_map_or}
 use Rattle.irp_types.specs.declared.entry.Entry.{Entry}
 use Rattle.irp_types.specs.declared.location.Owner.{Owner}

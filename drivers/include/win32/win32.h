@@ -203,6 +203,6 @@ NTSTATUS WdmUnixCall(unsigned Code, void *Parameters);
 typedef NTSTATUS (*unixlib_entry_t)(void *);
 typedef UINT64 unixlib_handle_t;
 
-DEFINE_DEVPROPKEY(DEVPKEY_NAME, 0xb725f130, 0x47ef, 0x101a, 0xa5, 0xf1, 0x02, 0x60, 0x8c, 0x9e, 0xeb, 0xac, 10);
+extern const DEVPROPKEY DEVPKEY_NAME;
 
 #endif

@@ -1,4 +1,4 @@
-use Rattle.std.proofs.Common.{◌≡◌, ◌<◌, ℕ, ap, arith, get_or, length, refl, true}
+use Rattle.std.proofs.Common.{◌≡◌, ◌<◌, arith, get_or, length, refl}
 use Rattle.irp_orders.proofs.Pairing.{extends_none, kept}
 use Rattle.irp_orders.proofs.alike.has_partner.Goals as goal
 use Rattle.irp_orders.proofs.alike.has_partner.Goals.{
