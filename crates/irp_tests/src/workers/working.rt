@@ -114,12 +114,7 @@ pub fn the_gate_is_called_before_and_after_each_step<R: Threads + Wait + Sync>(
         }),
         ..by(1, LOOK)
     };
-    let steps = [
-        by(2, ALLOCATE),
-        by(0, acquire(1)),
-        by(1, LOOK),
-        passed_over,
-    ];
+    let steps = [by(2, ALLOCATE), by(0, acquire(1)), by(1, LOOK), passed_over];
     let gate = Turns {
         begun: AtomicU64::new(0),
         answered: AtomicU64::new(0),
