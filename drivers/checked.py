@@ -96,7 +96,8 @@ def unlucky(bench, drivers, flag):
     words = [flag, "--minutes", "30", "--processes", "1", "--args", " ".join(drivers), *files, f"{HERE}/unlucky/test.c"]
     said, status = ran(bench, *words)
     for rule, place in marks(name):
-        told = re.search(rf"^host: (?:FAULT )?{rule}\b.*{re.escape(place)}\b.*\n  again with  run (.*)$", said, re.M)
+        told = re.search(rf"^host: (?:FAULT )?{rule}\b.*{re.escape(place)}\b.*\n(?:  (?:refused|cancelled) .*\n)?"
+                         r"  again with  run (.*)$", said, re.M)
         again, ended = ran(bench, *shlex.split(told[1])) if told else ("", 0)
         repeated = re.search(rf"^host: (?:FAULT )?{rule}\b.*{re.escape(place)}\b", again, re.M)
         well = status == 1 and ended == 1 and repeated

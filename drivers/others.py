@@ -33,9 +33,11 @@ MISTAKES = [
      "SamplerTick"),
     (17, FUNCTION, "the cancel lock is released with another level", "IoReleaseCancelSpinLock", PLAIN, "IrqlReturn",
      "SamplerCancel"),
-    (18, FUNCTION, "a removal doesn't complete what is queued", "Handling an IRP_MN_REMOVE_DEVICE Request", None, None, None),
-    (19, FUNCTION, "paged pool is touched in a deferred routine", "Force IRQL Checking", None, None, None),
-    (20, FUNCTION, "PoRequestPowerIrp's failure isn't looked at", "bug check 0x9F", None, None, None),
+    (18, FUNCTION, "a removal doesn't complete what is queued", "Handling an IRP_MN_REMOVE_DEVICE Request", PLAIN,
+     "NotDrained", "SamplerPnp"),
+    (19, FUNCTION, "paged pool is touched in a deferred routine", "Force IRQL Checking", PLAIN, "PagedAtDispatch",
+     "SamplerArm"),
+    (20, FUNCTION, "PoRequestPowerIrp's failure isn't looked at", "bug check 0x9F", VERIFY, "Hang", "SamplerSystemPowerDone"),
 ]
 
 
@@ -53,11 +55,12 @@ def told(bench, number, source, rule, function):
     yield f"a mistake of others, {number}", None if well else f"it isn't {rule} in {function}: {first}"
 
 
-def right(bench, *sources):
-    """A right driver of others is clean."""
-    said = ran(bench, *sources)
-    names = ", ".join(os.path.basename(it) for it in sources)
-    yield f"right drivers of others: {names}", None if "; clean" in said else said[-400:]
+def right(bench, *words):
+    """A right driver of others is clean, and the system's power packets came to it."""
+    said = ran(bench, *words)
+    names = ", ".join(os.path.basename(it) for it in words)
+    well = "; clean" in said and not re.search("^never ran .*SystemPowerDone", said, re.M)
+    yield f"right drivers of others: {names}", None if well else said[-400:]
 
 
 def tests(bench):
@@ -65,4 +68,4 @@ def tests(bench):
     found = [(f"others {n}", lambda n=n, its=its, rule=rule, where=where: told(bench, n, its, rule, where))
              for n, its, _, _, run, rule, where in MISTAKES if run == PLAIN]
     return [*found, *((f"others {len(its)}, right", lambda its=its: right(bench, *its))
-                      for its in ((FILTER,), (FUNCTION, FILTER)))]
+                      for its in ((FILTER,), (FUNCTION, FILTER), ("--routines-high", FUNCTION)))]

@@ -243,6 +243,9 @@ FAULTS = [
     shape("SkipThenComplete", ["AfterSkip ", "D2 (middle)", "IoCompleteRequest"]),
     shape("MarksInRoutine", ["Mark ", "MarksUnmarked, completion routine of D2 (middle)", "marks, and"],
           verdict="illegal"),
+    shape("SetsAndReturns", ["Returned ", "MiddleControl, dispatch for DEVICE_CONTROL of D2 (middle)", "returned 0"],
+          verdict="illegal"),
+    shape("SetsInRoutine", ["Mark ", "SetsUnmarked, completion routine of D2 (middle)", "marks, and"], verdict="illegal"),
     shape("MarksAndWaits", ["Returned ", "MiddleControl, dispatch for DEVICE_CONTROL of D2 (middle)",
                             "marked the packet pending in its routine"], verdict="illegal", ending=1),
     shape("WaitsForEver", ["Hang", "wrong.c:", "WaitsForEver",
@@ -295,7 +298,7 @@ WRONG_HOSTS = [
 # What the host's own test finds in untested/mistakes.c: rules, each with the function that it is told of.
 MISTAKES = [("Touched", "in Write"), ("PoolOverrun", "in Write"), ("IrqlReturn", "in CancelWait"),
             ("InformationTooLong", "in Control"), ("Mark", "ReadDone"), ("Status", "in Flush, dispatch for FLUSH_BUFFERS"),
-            ("NotOwner", "in Start"), ("Lost", "in Pnp, dispatch for PNP")]
+            ("NotOwner", "in Start"), ("Lost", "in Pnp, dispatch for PNP"), ("InFlight", "in Pnp")]
 # The right shapes. The wrong ones are in FAULTS.
 RIGHT_SHAPES = """
     SkipDown ForwardUnmarked ForwardMarked MarkedRoutineSilent MarkedTwice ForwardNoRoutine OnErrorOnly

@@ -128,6 +128,16 @@ def candidates(compiler, flags, sources):
     return [it for it in dict.fromkeys(found) if 1 << 16 < it < 1 << 32 and it >> 16 != 0xC000][:40]
 
 
+def names_files(sources):
+    """Whether a source, or a header beside it, names file objects: then its requests may want one."""
+    beside = {it for source in sources for it in glob.glob(os.path.dirname(os.path.abspath(source)) + "/*.h")}
+    for path in [*sources, *beside]:
+        with open(path, encoding="utf-8", errors="replace") as it:
+            if re.search(r"\b(FileObject|FsContext2?)\b", it.read()):
+                return True
+    return False
+
+
 def macros(compiler, flags, source, text):
     """Returns the values of the macros of CTL_CODE that a source names."""
     words = [compiler, *flags, "-E", "-dM", source]

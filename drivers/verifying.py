@@ -81,6 +81,13 @@ def key_of(line):
     return found.groups() if found else re.sub(r"\d+", "N", line)
 
 
+def taken_by(run):
+    """Returns what the run took away, and where, or None."""
+    refused = re.search(r"^host: memory was refused .*first to (.*)$", run.said, re.M)
+    cancelled = re.search(r"^host: the request was (cancelled at .*)$", run.said, re.M)
+    return f"refused     {refused[1]}" if refused else cancelled[1].replace(" at ", "   ", 1) if cancelled else None
+
+
 def complaints_of(run):
     """Returns the lines that say what is wrong with a run; the run's own words where the host told nothing."""
     told = [line for line in run.said.splitlines()
@@ -127,7 +134,7 @@ class Verification:
         for line in found:
             known = self.faults.get(key_of(line))
             if known is None or (rule_of(line) in MEMORY and "page_ends" in flags):
-                self.faults[key_of(line)] = [line, flags, kind.name, time.monotonic() - self.began, False]
+                self.faults[key_of(line)] = [line, flags, taken_by(run), time.monotonic() - self.began, False]
 
     def again(self, flags):
         """Returns the command that makes a run again."""
@@ -147,9 +154,10 @@ class Verification:
     def tell_found(self):
         """Tells the faults that weren't told."""
         for fault in self.faults.values():
-            line, flags, _, seconds, is_told = fault
+            line, flags, taken, seconds, is_told = fault
             if not is_told:
-                print(f"{line}\n  again with  {self.again(flags)}\n  found       after {seconds:.1f} s", flush=True)
+                taken = f"\n  {taken}" if taken else ""
+                print(f"{line}{taken}\n  again with  {self.again(flags)}\n  found       after {seconds:.1f} s", flush=True)
                 fault[4] = True
 
     def progress(self, kind):

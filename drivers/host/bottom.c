@@ -6,6 +6,7 @@
 typedef struct {
     PDEVICE_OBJECT Self;
     ULONG Style, Failures;
+    LONG Pended; /* that it hasn't completed */
     IO_CSQ Queue;
     LIST_ENTRY Waiting;
     KSPIN_LOCK Lock;
@@ -43,8 +44,8 @@ static NTSTATUS Complete(PIRP Irp, NTSTATUS Status, ULONG_PTR Information)
 
 static VOID CompleteCanceled(PIO_CSQ Csq, PIRP Irp)
 {
-    UNREFERENCED_PARAMETER(Csq);
     Complete(Irp, STATUS_CANCELLED, 0);
+    __atomic_sub_fetch(&CONTAINING_RECORD(Csq, BOTTOM, Queue)->Pended, 1, __ATOMIC_SEQ_CST);
 }
 
 static ULONG LengthOf(PIRP Irp)
@@ -65,8 +66,10 @@ static VOID CompleteLater(PDEVICE_OBJECT DeviceObject, PVOID Context)
     LARGE_INTEGER moment = { .QuadPart = -10000 };
     KeDelayExecutionThread(KernelMode, FALSE, &moment);
     PIRP irp = IoCsqRemoveNextIrp(&ext->Queue, NULL);
-    if (irp)
+    if (irp) {
         IoCompleteRequest(irp, IO_NO_INCREMENT); /* with what stands in its IoStatus */
+        __atomic_sub_fetch(&ext->Pended, 1, __ATOMIC_SEQ_CST);
+    }
     IoFreeWorkItem(Context);
 }
 
@@ -81,6 +84,7 @@ static NTSTATUS End(PDEVICE_OBJECT DeviceObject, PIRP Irp, BOOLEAN Late, NTSTATU
         return Complete(Irp, STATUS_INSUFFICIENT_RESOURCES, 0);
     Irp->IoStatus.Status = Status;
     Irp->IoStatus.Information = Information;
+    __atomic_add_fetch(&ext->Pended, 1, __ATOMIC_SEQ_CST);
     IoCsqInsertIrp(&ext->Queue, Irp, NULL);
     IoQueueWorkItem(item, CompleteLater, DelayedWorkQueue, item);
     return STATUS_PENDING;
@@ -146,6 +150,11 @@ static PDRIVER_OBJECT driver;
 
 bool is_bottom(PDEVICE_OBJECT device);
 bool is_bottom(PDEVICE_OBJECT device) { return driver && device->DriverObject == driver; }
+
+BOOLEAN bottom_holds(PDEVICE_OBJECT device)
+{
+    return __atomic_load_n(&((PBOTTOM)device->DeviceExtension)->Pended, __ATOMIC_SEQ_CST) > 0;
+}
 
 PDEVICE_OBJECT WdmCreateBottom(BOOLEAN Late) { return WdmCreateBottomOf(Late ? WDM_BOTTOM_LATE : 0); }
 

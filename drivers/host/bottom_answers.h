@@ -7,5 +7,7 @@
 /* Puts the answer into the packet's Information, where the question has one. Returns the packet's new status: its own
    where the device doesn't know the request. */
 NTSTATUS BottomAnswer(PDEVICE_OBJECT DeviceObject, PIRP Irp);
+/* Whether the bottom device has packets that it hasn't completed. */
+BOOLEAN bottom_holds(PDEVICE_OBJECT device);
 
 #endif

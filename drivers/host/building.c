@@ -83,6 +83,9 @@ static NTSTATUS power_done(PDEVICE_OBJECT Device, PIRP Irp, PVOID Context)
 NTSTATUS WdmPoRequestPowerIrp(PDEVICE_OBJECT Device, UCHAR Minor, POWER_STATE State, PREQUEST_POWER_COMPLETE Complete,
                               PVOID Context, PIRP *Out, WDM_SITE at)
 {
+    Call c;
+    enter_host(&c, "PoRequestPowerIrp", at);
+    leave_host();
     PDEVICE_OBJECT top = IoGetAttachedDevice(Device);
     Wish *w = host_memory(sizeof *w);
     PIRP irp = w ? WdmBuild(top, IRP_MJ_POWER, Minor, 0, NULL, NULL, at) : NULL;
@@ -97,6 +100,9 @@ NTSTATUS WdmPoRequestPowerIrp(PDEVICE_OBJECT Device, UCHAR Minor, POWER_STATE St
     if (Out)
         *Out = irp;
     WdmIoSetCompletionRoutine(irp, power_done, w, SL_INVOKE_ON_SUCCESS | SL_INVOKE_ON_ERROR | SL_INVOKE_ON_CANCEL, at);
-    WdmIoCallDriver(top, irp, at);
+    if (self.irql > APC_LEVEL && top->Flags & DO_POWER_PAGABLE)
+        send_at_passive_level(top, irp, at);
+    else
+        WdmIoCallDriver(top, irp, at);
     return STATUS_PENDING;
 }

@@ -1,5 +1,5 @@
 /* callers.c: which code of the program led to where a thread is. Addresses stand for lines: `run` puts these in. */
-#include "host.h"
+#include "explore.h"
 #include <unwind.h>
 
 enum { MOST = 8 };
@@ -12,7 +12,7 @@ typedef struct {
     const void *last;
     const void *at[MOST];
     int n;
-    bool is_over;
+    bool is_over, takes_all; /* takes_all: a place isn't looked up, which takes time */
 } Walk;
 
 static _Unwind_Reason_Code step(struct _Unwind_Context *context, void *given)
@@ -27,7 +27,7 @@ static _Unwind_Reason_Code step(struct _Unwind_Context *context, void *given)
         return _URC_NO_REASON;
     if (w->is_over || w->n == MOST || stack >= w->until)
         return _URC_END_OF_STACK;
-    if (is_in_program(at))
+    if (w->takes_all || is_in_program(at))
         w->at[w->n++] = at;
     w->is_over = w->last && _Unwind_FindEnclosingFunction((void *)(uintptr_t)at) == w->last;
     return _URC_NO_REASON;
@@ -53,19 +53,55 @@ static bool is_named(const void *at, const char *function)
     return !strncmp(name, function, n) && (!name[n] || name[n] == '.');
 }
 
-/* Who called the function that makes this call, up to the dispatch or routine that runs. Where that function is inlined
-   its own place comes first, and `run`, which can tell, leaves it out. */
-const char *callers_of(const Call *c)
+static Walk walk_from(const Call *c, bool takes_all)
 {
     const Frame *f = self.frames;
-    Walk w = { .from = (uintptr_t)c, .until = f ? (uintptr_t)f : UINTPTR_MAX, .last = f ? f->fn : NULL };
-    if (!c->is_entered || !c->at.function)
-        return "";
-    _Unwind_Backtrace(step, &w);
+    Walk w = { .from = (uintptr_t)c, .until = f ? (uintptr_t)f : UINTPTR_MAX, .last = f ? f->fn : NULL,
+               .takes_all = takes_all };
+    if (c->is_entered && c->at.function)
+        _Unwind_Backtrace(step, &w);
+    return w;
+}
+
+/* Without the function that makes the call. Where that is inlined its own place comes first, and `run`, which can tell,
+   leaves it out. */
+static const char *tell_callers(const Walk *w, const char *function)
+{
     int own = 0;
-    while (own < w.n && !is_named(w.at[own], c->at.function))
+    while (own < w->n && !is_named(w->at[own], function))
         own++;
-    return tell_walk(&w, own < w.n ? own + 1 : 0);
+    return tell_walk(w, own < w->n ? own + 1 : 0);
+}
+
+/* Who called the function that makes this call, up to the dispatch or routine that runs. */
+const char *callers_of(const Call *c)
+{
+    const Walk w = walk_from(c, false);
+    return w.n ? tell_callers(&w, c->at.function) : "";
+}
+
+/* Keeps who made this call, for `place_with_callers`. A run that is one of many leaves it to the one that is shown. */
+void keep_callers(Callers *kept, const Call *c)
+{
+    kept->n = 0;
+    if (is_exploring)
+        return;
+    const Walk w = walk_from(c, true);
+    kept->n = w.n < MOST_CALLERS ? w.n : MOST_CALLERS;
+    memcpy(kept->at, w.at, (size_t)kept->n * sizeof *kept->at);
+}
+
+/* A place, and where it is a helper's, the helper and who called it. */
+const char *place_with_callers(WDM_SITE at, const Callers *kept)
+{
+    static _Thread_local char text[500];
+    Walk w = { .n = 0 };
+    for (int i = 0; i < kept->n; i++)
+        if (is_in_program(kept->at[i]))
+            w.at[w.n++] = kept->at[i];
+    const char *callers = w.n ? tell_callers(&w, at.function) : "";
+    snprintf(text, sizeof text, "%s%s%s%s", place(at), *callers ? " in " : "", *callers ? at.function : "", callers);
+    return text;
 }
 
 /* Where this thread is, or was where a handler interrupted it: into `at`, as far as its dispatch or routine. Returns how

@@ -13,6 +13,7 @@ static const Check checks[] = {
     { "WrongIrql", "rule SpinLockRelease", "KeReleaseSpinLock function",
       "hand over the level that this acquire gave" },
     { "IrqlTooHigh", "0xC4 or 0xA", "Managing Hardware Priorities", "do it in a work item or a thread, or before" },
+    { "PagedAtDispatch", "0xD1", "Force IRQL Checking", "allocate it from nonpaged pool, or copy what is needed before" },
     { "IrqlTooLow", "0xC4/0x41", "KeAcquireSpinLockAtDpcLevel function", "call KeAcquireSpinLock" },
     { "IrqlReturn", "0xC9/0x5", "Managing Hardware Priorities", "put the level back on each way out" },
     { "RaiseLower", "0xC4/0x30", "KeRaiseIrql function", "raise upwards, and lower to what the raise gave" },

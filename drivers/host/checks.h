@@ -43,12 +43,14 @@ typedef struct Block {
     size_t size, room; /* room: how many bytes lie behind it, as a fence */
     ULONG tag;
     int driver;
-    bool paged, freed, in_pages, is_buffer, unprobed;
+    bool paged, freed, in_pages, is_buffer, unprobed, is_open;
+    int locked; /* by how many MDLs */
+    struct Block *next_open;
     WDM_SITE allocated, released;
     const Packet *packet; /* for which it was allocated, where a routine of one runs, and that packet's use */
     uint64_t use;
 } Block;
-Block *new_block(size_t size, ULONG tag, bool zero, WDM_SITE at);
+Block *new_block(size_t size, ULONG tag, ULONG kind, WDM_SITE at);
 void free_block(Block *b, WDM_SITE at);
 const char *block_text(const Block *b);
 void hand_over_block(const void *bytes);
@@ -58,7 +60,9 @@ bool get_pages(Block *b);
 void close_pages(Block *b);
 void close_until_probed(Block *b);
 void probed(const void *address);
-bool touched_block(void *address, void *instruction);
+void close_paged(void);
+void lock_block(const void *address, int change);
+bool touched_block(void *address);
 void tell_block_touches(void);
 
 /* used.c, starting.c */

@@ -151,6 +151,7 @@ static void unwind(Packet *p, Entry *e)
 void finish(Packet *p, Entry *e, ULONG status, uint64_t information)
 {
     p->sites.completed = self.calls->at;
+    keep_callers(&p->completers, self.calls);
     p->status = status;
     p->information = information;
     unwind(p, e);

@@ -5,6 +5,7 @@
  * and power too, one that fails, and one that doesn't start. A driver that creates a device in DriverEntry gets the
  * requests there. WDM_SHORT leaves out all but the first two, and most lengths.
  */
+#include "bottom_answers.h"
 #include "requests.h"
 #include <pthread.h>
 #include <stdio.h>
@@ -12,7 +13,8 @@
 extern const struct { const char *name; PDRIVER_INITIALIZE entry; } wdm_drivers[];
 extern const int wdm_n_drivers;
 
-enum { UNKNOWN_MINOR = 0x7f, MAX_CHILDREN = 16, PATIENT = 50, SHORTLY = 10 }; /* milliseconds before a request is cancelled */
+enum { UNKNOWN_MINOR = 0x7f, MAX_CHILDREN = 16, MAX_HELD = 8 };
+enum { PATIENT = 50, SHORTLY = 10 }; /* milliseconds before a request is cancelled */
 static PDEVICE_OBJECT top_of_threads;
 static PDRIVER_OBJECT loaded[64];
 static BOOLEAN is_on_children[64];
@@ -140,12 +142,60 @@ static void remove_by_surprise(PDEVICE_OBJECT bottom, PDEVICE_OBJECT top)
     WdmRemove(bottom);
 }
 
+/* What another driver asks for, without a file, and doesn't cancel. Returns how many requests. Where a driver looks at
+   files it may want one, and then Windows doesn't remove the device. */
+static int ask_without_file(Request *asked, PDEVICE_OBJECT top)
+{
+    int n = 0;
+    if (getenv("WDM_FILES"))
+        return 0;
+    n += start_request(&asked[n], top, transfer(IRP_MJ_READ, 16), WITHOUT_FILE);
+    n += start_request(&asked[n], top, transfer(IRP_MJ_WRITE, 16), WITHOUT_FILE);
+    for (int i = 0; i < n_controls && n < MAX_HELD; i++)
+        n += start_request(&asked[n], top, control(i, 16), WITHOUT_FILE);
+    return n;
+}
+
+/* What was passed down comes back. What is left is held by the drivers. */
+static void let_bottom_finish(PDEVICE_OBJECT bottom)
+{
+    LARGE_INTEGER moment = { .QuadPart = -10000 };
+    for (int i = 0; i < PATIENT && bottom_holds(bottom); i++)
+        KeDelayExecutionThread(KernelMode, FALSE, &moment);
+}
+
+/* Nobody has the device open. What is held in it is ended by its removal. */
 static void remove_in_order(PDEVICE_OBJECT bottom, PDEVICE_OBJECT top)
 {
+    Request asked[MAX_HELD];
     close_it(top);
+    const int n = ask_without_file(asked, top);
+    let_bottom_finish(bottom);
     set_power(top, IRP_MN_QUERY_POWER, PowerDeviceD3);
     set_power(top, IRP_MN_SET_POWER, PowerDeviceD3);
     WdmUnplug(bottom, FALSE);
+    for (int i = 0; i < n; i++)
+        end_request(&asked[i], PATIENT);
+}
+
+/* The system falls asleep and wakes while a read is under way: children sleep first, and wake last. */
+static void sleep_and_wake(PDEVICE_OBJECT bottom, PDEVICE_OBJECT top)
+{
+    PDEVICE_OBJECT order[MAX_CHILDREN + 1];
+    Request read;
+    const BOOLEAN reads = start_request(&read, top, transfer(IRP_MJ_READ, 16), PLAIN);
+    ULONG n = WdmGetChildren(bottom, order, MAX_CHILDREN), asked = 0;
+    for (ULONG i = 0; i < n; i++)
+        order[i] = IoGetAttachedDevice(order[i]);
+    order[n++] = top;
+    while (asked < n && NT_SUCCESS(set_system_power(order[asked], IRP_MN_QUERY_POWER, PowerSystemSleeping3)))
+        asked++;
+    for (ULONG i = 0; asked == n && i < n; i++)
+        set_system_power(order[i], IRP_MN_SET_POWER, PowerSystemSleeping3);
+    while (n)
+        set_system_power(order[--n], IRP_MN_SET_POWER, PowerSystemWorking);
+    if (reads)
+        end_request(&read, PATIENT);
 }
 
 /* The children that a bus has reported are used as it is, one behind the other. */
@@ -169,6 +219,7 @@ static void use_started(PDEVICE_OBJECT bottom, ULONG style, int threads)
     use_children(bottom);
     if (threads > 1)
         use_by_threads(top, threads);
+    sleep_and_wake(bottom, top);
     if (!style && !is_short)
         stop_and_start(bottom, top);
     if (style == WDM_BOTTOM_LATE)

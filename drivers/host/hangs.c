@@ -33,6 +33,27 @@ static size_t tell_packet(const Packet *p, char *text, size_t size)
     return n < 0 ? 0 : (size_t)n < size ? (size_t)n : size - 1;
 }
 
+static bool is_at(const Packet *p, int device)
+{
+    for (int j = p->current; j <= p->size; j++)
+        if (p->at[j].device == device)
+            return true;
+    return p->owner == device;
+}
+
+/* A packet that is on its way through the device, as the second half of a fault; empty where there is none. */
+const char *packet_at(int device)
+{
+    static _Thread_local char text[420];
+    *text = 0;
+    for (int i = 0; i < n_packets && !*text; i++)
+        if (lives(packets[i]) && is_at(packets[i], device)) {
+            memcpy(text, ": ", 2);
+            tell_packet(packets[i], text + 2, sizeof text - 2);
+        }
+    return text;
+}
+
 /* Names what is in flight, for a wait that never ends: under G. */
 static void tell_in_flight(char *text, size_t size)
 {

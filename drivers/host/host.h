@@ -48,6 +48,10 @@ typedef enum { NONE_YET, DONE, DEVICE, IRP_REF, STATUS, PREVIOUS, CANCELLED, SEE
 typedef struct Packet Packet;
 typedef struct Entry Entry;
 
+/* Who made a call: places in the program, the innermost first. */
+enum { MOST_CALLERS = 5 };
+typedef struct { const void *at[MOST_CALLERS]; int n; } Callers;
+
 /* One setting of a completion routine. Its rule is learned from what this one did, unless the test declares one. */
 typedef struct {
     PIO_COMPLETION_ROUTINE fn;
@@ -183,6 +187,7 @@ struct Packet {
     const void *touched_at;
     int toucher;
     struct { WDM_SITE allocated, sent, completed, freed, cancel; } sites;
+    Callers completers;
     uint64_t name; /* by the thread that allocated it, and how many that had allocated before */
     UCHAR major;   /* what was sent to the first device */
     CHAR stack_count;         /* what the packet says of itself */
@@ -212,6 +217,7 @@ typedef struct Call {
     WDM_SITE at;
     bool is_entered; /* it stands where the driver made it: its callers are above it on the stack */
     bool is_access;  /* it is an access of memory, and its name says at which place */
+    const void *by;  /* of a touch: the instruction */
 } Call;
 
 typedef struct {
@@ -219,7 +225,7 @@ typedef struct {
     int driver;       /* whose thread it is: who made it, or queued its work; NOBODY where that isn't known */
     int device;       /* whose work item it runs, or NOBODY */
     bool is_driver;   /* a thread of a driver, or of the host for drivers: its waits outside of packets are no hang */
-    bool has_cancel_lock;
+    bool has_cancel_lock, has_host; /* has_host: it holds G for a call */
     KIRQL irql;
     WDM_SITE raised;  /* where its interrupt level was changed last */
     unsigned chance;
@@ -315,7 +321,8 @@ bool wait_for_host(bool (*done)(const void *), const void *context);
 void finish_work(void);
 void run_work(Frame *f, int driver);
 void work_done(void);
-bool workers_are_idle(void), plug_and_play_is_idle(void);
+bool workers_are_idle(void), plug_and_play_is_idle(void), power_manager_is_idle(void);
+void send_at_passive_level(PDEVICE_OBJECT top, PIRP irp, WDM_SITE at);
 void after_work_items(void);
 bool has_work(int device);
 void item_is_queued(int device);

@@ -54,6 +54,7 @@ KIRQL WdmKeAcquireInterruptSpinLock(PKINTERRUPT Interrupt, WDM_SITE at)
 {
     const KIRQL irql = WdmKeAcquireSpinLock(&Interrupt->lock, at);
     self.irql = Interrupt->irql;
+    close_paged();
     return irql;
 }
 

@@ -46,6 +46,7 @@ KIRQL take_spin_lock(PKSPIN_LOCK lock, LockKind kind, const char *name, WDM_SITE
     }
     self.raised = at;
     self.irql = old < DISPATCH_LEVEL ? DISPATCH_LEVEL : old;
+    close_paged();
     return old;
 }
 
@@ -108,6 +109,7 @@ VOID WdmKeRaiseIrql(KIRQL New, PKIRQL Old, WDM_SITE at)
         broken("RaiseLower", NULL, "raised to %s, below %s", level_name(New), level_name(self.irql));
     *Old = self.irql;
     self.irql = New;
+    close_paged();
     self.raised = at;
     leave_host();
 }

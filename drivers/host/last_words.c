@@ -54,7 +54,7 @@ static const void *return_of(const void *context)
 #endif
 }
 
-static void put_places(char *text, size_t size, const void *const *at, int n)
+void put_places(char *text, size_t size, const void *const *at, int n)
 {
     size_t used = 0;
     *text = 0;

@@ -162,6 +162,7 @@ void enter_level(Frame *f)
     if (self.irql < f->irql)
         self.irql = f->irql;
     f->irql = self.irql;
+    close_paged();
 }
 
 /* It returns: with the level at which it began, and without locks that it took. */

@@ -46,6 +46,15 @@ bool memory_is_refused(const char *what, WDM_SITE at)
     return true;
 }
 
+BOOLEAN WdmIsRefused(const char *Name, WDM_SITE at)
+{
+    Call c;
+    enter_quietly(&c, Name, at);
+    const bool is_refused = memory_is_refused(Name, at);
+    leave_host();
+    return is_refused;
+}
+
 /* Whether this run refuses memory: then a test may end early, and fewer entries are no fault. */
 bool memory_was_refused(void) { return n_refused > 0; }
 

@@ -75,6 +75,7 @@ VOID WdmMmProbeAndLockPages(PMDL Mdl, LOCK_OPERATION Operation, WDM_SITE at)
     if (Mdl->MdlFlags & (MDL_PAGES_LOCKED | MDL_SOURCE_IS_NONPAGED_POOL | MDL_PARTIAL))
         fault("MdlLocked", NULL, "the pages of an MDL are locked that was %s",
               Mdl->MdlFlags & MDL_PAGES_LOCKED ? "locked before" : "built for memory that needs no lock");
+    lock_block(MmGetMdlVirtualAddress(Mdl), 1);
     Mdl->MdlFlags |= MDL_PAGES_LOCKED | (Operation == IoReadAccess ? 0 : MDL_WRITE_OPERATION);
     forget_lock(Mdl);
     if (n_locked < MAX_LOCKED) {
@@ -91,6 +92,8 @@ VOID WdmMmUnlockPages(PMDL Mdl, WDM_SITE at)
     touch_memory(Mdl, sizeof *Mdl, WRITES);
     if (!(Mdl->MdlFlags & MDL_PAGES_LOCKED))
         fault("MdlNotLocked", NULL, "the pages of an MDL are unlocked that aren't locked");
+    else
+        lock_block(MmGetMdlVirtualAddress(Mdl), -1);
     Mdl->MdlFlags &= (CSHORT)~(MDL_PAGES_LOCKED | MDL_MAPPED_TO_SYSTEM_VA | MDL_WRITE_OPERATION);
     Mdl->MappedSystemVa = NULL;
     forget_lock(Mdl);
@@ -159,11 +162,12 @@ void give_mdl(Packet *p)
     if (!is_control || (method != METHOD_IN_DIRECT && method != METHOD_OUT_DIRECT))
         return;
     const ULONG length = next->Parameters.DeviceIoControl.OutputBufferLength;
-    if (!p->writes_back && length && (p->direct_bytes = new_block(length, 0, true, p->sites.allocated)))
+    if (!p->writes_back && length && (p->direct_bytes = new_block(length, 0, WDM_POOL_ZERO, p->sites.allocated)))
         p->direct_bytes->is_buffer = true;
     PVOID out = p->writes_back ? p->irp->UserBuffer : p->direct_bytes ? p->direct_bytes->bytes : NULL;
     if (!out || !length)
         return;
+    lock_block(out, 1); /* for as long as it lives */
     MmInitializeMdl(p->direct, out, length);
     p->direct->MdlFlags |= MDL_SOURCE_IS_NONPAGED_POOL | MDL_MAPPED_TO_SYSTEM_VA;
     p->direct->MappedSystemVa = out;

@@ -228,7 +228,7 @@ VOID WdmIoFreeIrp(PIRP Irp, WDM_SITE at)
     else {
         if (p->owner == ENDED)
             fault("NotKept", p, "is freed after it has ended at %s: no routine kept it for %s",
-                  place(p->sites.completed), who_of(p, ORIGINATOR));
+                  place_with_callers(p->sites.completed, &p->completers), who_of(p, ORIGINATOR));
         answered(e, DONE, 0);
         free_now(p);
         p->sites.freed = at;

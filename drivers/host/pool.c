@@ -108,17 +108,18 @@ Block *freed_block_of(const void *address)
 }
 
 /* A block, or NULL. Under G. */
-Block *new_block(size_t size, ULONG tag, bool zero, WDM_SITE at)
+Block *new_block(size_t size, ULONG tag, ULONG kind, WDM_SITE at)
 {
     Block *b = calloc(1, sizeof *b);
     if (!b)
         return NULL;
-    *b = (Block){ .size = size, .tag = tag, .driver = calling_driver(), .allocated = at };
+    *b = (Block){ .size = size, .tag = tag, .driver = calling_driver(), .allocated = at,
+                  .paged = kind & WDM_POOL_PAGED };
     if (!get_memory(b)) {
         free(b);
         return NULL;
     }
-    memset(b->bytes, zero ? 0 : FRESH, size);
+    memset(b->bytes, kind & WDM_POOL_ZERO ? 0 : FRESH, size);
     fill_fences(b);
     b->next = *bucket_of(b->bytes);
     *bucket_of(b->bytes) = b;
@@ -224,9 +225,8 @@ PVOID WdmAllocatePool(ULONG Kind, SIZE_T Bytes, ULONG Tag, WDM_SITE at)
     enter_host(&c, Kind & WDM_POOL_PAGED ? "ExAllocatePool (paged)" : "ExAllocatePool", at);
     if (!Bytes)
         broken("ZeroBytes", NULL, "asks for a block of no bytes");
-    Block *b = memory_is_refused(c.name, at) ? NULL : new_block(Bytes, Tag, Kind & WDM_POOL_ZERO, at);
+    Block *b = memory_is_refused(c.name, at) ? NULL : new_block(Bytes, Tag, Kind, at);
     if (b) {
-        b->paged = Kind & WDM_POOL_PAGED;
         b->packet = self.frames ? self.frames->p : NULL;
         b->use = b->packet ? b->packet->use : 0;
         count_place(at, 1);

@@ -71,7 +71,7 @@ static void tell_before(const Packet *p, const char *name, char *text, size_t si
     else if (!strcmp(name, "CancelRoutineSet"))
         what = "set before at", at = p->sites.cancel;
     if (what && at.file)
-        snprintf(text, size, ", %s %s", what, place(at));
+        snprintf(text, size, ", %s %s", what, *what == 'c' ? place_with_callers(at, &p->completers) : place(at));
 }
 
 /* Whether a completion is refused because the packet was completed before. */
@@ -83,7 +83,7 @@ static bool is_second(const Entry *e)
 /* A call that the rules refuse: it is recorded so, has no effect, and is told. */
 void refuse(Entry *e, const char *name)
 {
-    char before[160], holder[200] = "";
+    char before[540], holder[200] = "";
     e->refused = name;
     const bool second = is_second(e);
     const char *rule = second ? "CompletedTwice" : name;
@@ -95,7 +95,7 @@ void refuse(Entry *e, const char *name)
     else if (e->op <= REMOVE)
         fault(rule, NULL, "refused for %s%s%s", who(e->device),
               e->drained || e->op != REMOVE ? "" : " (lock not drained)",
-              strcmp(name, "NotDrained") ? "" : held_tags(e->device));
+              !strcmp(name, "NotDrained") ? held_tags(e->device) : !strcmp(name, "InFlight") ? packet_at(e->device) : "");
     else if (e->op >= SET_NEXT && e->op <= SET_CANCEL)
         fault(rule, e->p, "by %s%s%s; refused: %s", who_of(e->p, e->by), holder, before, name);
     else

@@ -27,6 +27,8 @@ BOOLEAN start_request(Request *r, PDEVICE_OBJECT top, What what, How how)
         return FALSE;
     if (what.major == IRP_MJ_DEVICE_CONTROL || what.major == IRP_MJ_INTERNAL_DEVICE_CONTROL)
         IoGetNextIrpStackLocation(r->irp)->Parameters.DeviceIoControl.IoControlCode = what.code;
+    if (how & WITHOUT_FILE)
+        IoGetNextIrpStackLocation(r->irp)->FileObject = r->irp->Tail.Overlay.OriginalFileObject = NULL;
     if (kept)
         IoSetCompletionRoutine(r->irp, keep, r, TRUE, TRUE, TRUE);
     if (how & CANCELLED_BEFORE)
@@ -68,18 +70,30 @@ NTSTATUS make_request(PDEVICE_OBJECT top, What what, How how, int milliseconds)
     return start_request(&r, top, what, how) ? end_request(&r, milliseconds) : STATUS_INSUFFICIENT_RESOURCES;
 }
 
-NTSTATUS set_power(PDEVICE_OBJECT top, UCHAR minor, DEVICE_POWER_STATE state)
+static NTSTATUS send_power(PDEVICE_OBJECT top, UCHAR minor, POWER_STATE_TYPE type, POWER_STATE state)
 {
     IO_STATUS_BLOCK iosb;
     KEVENT ended;
     KeInitializeEvent(&ended, NotificationEvent, FALSE);
     PIRP irp = WdmBuildIrp(top, IRP_MJ_POWER, minor, 0, &iosb, &ended);
     PIO_STACK_LOCATION next = IoGetNextIrpStackLocation(irp);
-    next->Parameters.Power.Type = DevicePowerState;
-    next->Parameters.Power.State.DeviceState = state;
+    next->Parameters.Power.Type = type;
+    next->Parameters.Power.State = state;
+    if (type == SystemPowerState && state.SystemState != PowerSystemWorking)
+        next->Parameters.Power.ShutdownType = PowerActionSleep;
     PoCallDriver(top, irp);
     KeWaitForSingleObject(&ended, Executive, KernelMode, FALSE, NULL);
     return iosb.Status;
+}
+
+NTSTATUS set_power(PDEVICE_OBJECT top, UCHAR minor, DEVICE_POWER_STATE state)
+{
+    return send_power(top, minor, DevicePowerState, (POWER_STATE){ .DeviceState = state });
+}
+
+NTSTATUS set_system_power(PDEVICE_OBJECT top, UCHAR minor, SYSTEM_POWER_STATE state)
+{
+    return send_power(top, minor, SystemPowerState, (POWER_STATE){ .SystemState = state });
 }
 
 static void add_control(ULONG code)

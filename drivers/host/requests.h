@@ -7,8 +7,9 @@
 /* What is asked of a stack: a major function, a buffer's length, and the code of a control. */
 typedef struct { UCHAR major; ULONG length, code; } What;
 
-/* How a request is sent. One that isn't kept is freed by the I/O manager at its end, as nearly all are on Windows. */
-typedef enum { PLAIN = 0, KEPT = 1, CANCELLED_BEFORE = 2, CANCELLED_AT_ONCE = 4, CANCELLED_AFTER = 8 } How;
+/* How a request is sent. One that isn't kept is freed by the I/O manager at its end, as nearly all are on Windows. A driver
+   elsewhere sends one without a file. */
+typedef enum { PLAIN = 0, KEPT = 1, CANCELLED_BEFORE = 2, CANCELLED_AT_ONCE = 4, CANCELLED_AFTER = 8, WITHOUT_FILE = 16 } How;
 
 typedef struct { PIRP irp; KEVENT done; IO_STATUS_BLOCK result; How how; } Request;
 
@@ -21,6 +22,7 @@ NTSTATUS make_request(PDEVICE_OBJECT top, What what, How how, int milliseconds);
 
 /* The same of power, which isn't cancelled. */
 NTSTATUS set_power(PDEVICE_OBJECT top, UCHAR minor, DEVICE_POWER_STATE state);
+NTSTATUS set_system_power(PDEVICE_OBJECT top, UCHAR minor, SYSTEM_POWER_STATE state);
 
 /* The control codes that are sent: those of WDM_CONTROLS, and from `find_controls` on those of WDM_CANDIDATES, which
    stand in the drivers' source, and usual ones: all that aren't answered as a code is that nobody knows. */

@@ -193,10 +193,13 @@ static bool was_told(const char *rule, WDM_SITE at, const void *fn)
 
 void tell_repeats(void)
 {
-    for (int i = 0; i < n_told; i++)
+    char where[200];
+    for (int i = 0; i < n_told; i++) {
+        snprintf(where, sizeof where, "+0x%lx in %s", place_in_program(told[i].fn), function_name(told[i].fn));
         if (told[i].times > 1)
             say("FAULT %s %d times at the same place (%s)", told[i].rule, told[i].times,
-                told[i].file ? place((WDM_SITE){ told[i].file, NULL, told[i].line }) : function_name(told[i].fn));
+                told[i].file ? place((WDM_SITE){ told[i].file, NULL, told[i].line }) : told[i].fn ? where : "the end");
+    }
 }
 
 static const char *known_name(const char *rule)
@@ -223,7 +226,7 @@ static void tell(const char *rule, const Packet *p, const char *where, const cha
 
 void fault(const char *rule, const Packet *p, const char *how, ...)
 {
-    char text[500], where[1000];
+    char text[900], where[1000];
     va_list list;
     va_start(list, how);
     vsnprintf(text, sizeof text, how, list);
@@ -231,7 +234,7 @@ void fault(const char *rule, const Packet *p, const char *how, ...)
     const Call *c = self.calls;
     const Frame *f = self.frames;
     n_faults++;
-    if (was_told(rule, c ? c->at : (WDM_SITE){ 0 }, f ? f->fn : NULL))
+    if (was_told(rule, c ? c->at : (WDM_SITE){ 0 }, c && c->by ? c->by : f ? f->fn : NULL))
         return;
     if (c && c->is_access && f)
         snprintf(where, sizeof where, "%s (under %s)", c->name, what_runs(f));

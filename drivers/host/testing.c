@@ -100,7 +100,7 @@ static void give_buffer(PIRP irp, PDEVICE_OBJECT top, ULONG length, WDM_SITE at)
     enter_host(&c, "WdmBuildIrp", (WDM_SITE){ 0 });
     Packet *p = find(irp);
     MDL *mdl = p->buffer = host_memory(2 * sizeof *mdl);
-    p->bytes = mdl ? new_block(length, 0, true, at) : NULL;
+    p->bytes = mdl ? new_block(length, 0, WDM_POOL_ZERO, at) : NULL;
     if (!p->bytes)
         give_up("out of memory");
     p->bytes->is_buffer = true;
@@ -126,7 +126,8 @@ static void frees_itself(PIRP irp)
 PIRP WdmBuild(PDEVICE_OBJECT Top, UCHAR Major, UCHAR Minor, ULONG Length, PIO_STATUS_BLOCK Iosb, PKEVENT Event,
               WDM_SITE at)
 {
-    learn_test(at.file);
+    if (!self.frames && !self.is_driver) /* else it may be a driver's PoRequestPowerIrp */
+        learn_test(at.file);
     PIRP irp = WdmIoAllocateIrp(Top->StackSize, at);
     if (!irp)
         return NULL;

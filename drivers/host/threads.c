@@ -80,6 +80,7 @@ void enter_quietly(Call *c, const char *name, WDM_SITE at)
         take_seat();
     *c = (Call){ .up = self.calls, .name = name, .at = at, .is_entered = true };
     self.calls = c;
+    self.has_host = true;
     self.last = at;
     self.last_call = name;
     check_devices();
@@ -94,6 +95,7 @@ void enter_quietly(Call *c, const char *name, WDM_SITE at)
 void leave_host(void)
 {
     self.calls = self.calls->up;
+    self.has_host = false;
     pthread_mutex_unlock(&host_lock);
 }
 
@@ -105,13 +107,18 @@ void hold_host(const char *call, const void *object, Touch how)
     touch(object, how);
 }
 
-void let_driver_run(void) { pthread_mutex_unlock(&host_lock); }
+void let_driver_run(void)
+{
+    self.has_host = false;
+    pthread_mutex_unlock(&host_lock);
+}
 
 void driver_came_back(void)
 {
     const Frame *f = self.frames;
     point("the return to the host", self.calls ? self.calls->at : (WDM_SITE){ 0 });
     pthread_mutex_lock(&host_lock);
+    self.has_host = true;
     if (f && f->p) /* what the routine leaves undecided is decided now; else somebody has by now */
         touch(f->p->irp, f->settled ? READS : WRITES);
     __atomic_add_fetch(&host_activity, 1, __ATOMIC_SEQ_CST);

@@ -3,9 +3,13 @@
 #define DRIVERS_TOLD_H
 
 /* callers.c, last_words.c, hangs.c */
+const char *packet_at(int device);
 const char *callers_of(const Call *c);
+void keep_callers(Callers *kept, const Call *c);
+const char *place_with_callers(WDM_SITE at, const Callers *kept);
 int where_is(bool in_handler, const void **at, int most);
 const void *instruction_of(const void *context);
+void put_places(char *text, size_t size, const void *const *at, int n);
 void crashed(int number, siginfo_t *info, void *context);
 void watch_for_the_end(void);
 void watch_thread(void);

@@ -10,10 +10,17 @@
 static char *arena;
 static bool is_on;
 
+/* The instruction of a touch; where the C library makes it, the call of that. */
+static const void *toucher_of(const void *context)
+{
+    const void *at = instruction_of(context), *above;
+    return is_in_program(at) || !where_is(true, &above, 1) ? at : above;
+}
+
 static void touched(int signal_number, siginfo_t *info, void *context)
 {
     const size_t i = (size_t)((char *)info->si_addr - arena) / PAGE;
-    if (touched_block(info->si_addr, (void *)(uintptr_t)instruction_of(context)))
+    if (touched_block(info->si_addr))
         return;
     Packet *p = (char *)info->si_addr < arena || i >= MAX_PACKETS ? NULL : packets[i];
     const bool was_watched = p && unwatch(p);
@@ -28,7 +35,7 @@ static void touched(int signal_number, siginfo_t *info, void *context)
     p->touched_by_sender = was_watched;
     p->trapped = !was_watched;
     p->touch_untold = true;
-    p->touched_at = instruction_of(context);
+    p->touched_at = toucher_of(context);
     p->toucher = self.frames ? self.frames->device : NOBODY;
     self.touched = p;
     mprotect(arena + i * PAGE, PAGE, PROT_READ | PROT_WRITE);
@@ -107,7 +114,7 @@ static void tell(Packet *p)
 {
     char where[200]; /* `run` has the line in place of the address */
     snprintf(where, sizeof where, "+0x%lx in %s", place_in_program(p->touched_at), function_name(p->touched_at));
-    Call *const calls = self.calls, here = { .name = where };
+    Call *const calls = self.calls, here = { .name = where, .by = p->touched_at };
     Frame *const frames = self.frames;
     p->touch_untold = false;
     self.calls = (Call *)&here; /* not the call that runs, and perhaps not the routine either */
@@ -117,7 +124,7 @@ static void tell(Packet *p)
                who(p->toucher), place(p->sites.sent));
     else
         fault("Touched", p, "read or written after its end by %s; it was completed at %s", who(p->toucher),
-              place(p->sites.completed));
+              place_with_callers(p->sites.completed, &p->completers));
     self.calls = calls;
     self.frames = frames;
 }

@@ -325,7 +325,7 @@ static bool dpcs_are_done(const void *context)
 
 static bool work_is_done(const void *context)
 {
-    return workers_are_idle() && dpcs_are_done(context) && plug_and_play_is_idle();
+    return workers_are_idle() && dpcs_are_done(context) && plug_and_play_is_idle() && power_manager_is_idle();
 }
 
 /* Under G: work items and deferred calls that are queued are waited for, as long as something goes on. */

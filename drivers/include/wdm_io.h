@@ -126,7 +126,9 @@ VOID WdmIoSetNextIrpStackLocation(PIRP Irp, WDM_SITE at);
         (UCHAR)(((success) ? SL_INVOKE_ON_SUCCESS : 0) | ((error) ? SL_INVOKE_ON_ERROR : 0) | \
                 ((cancel) ? SL_INVOKE_ON_CANCEL : 0)), WDM_HERE)
 #define IoSetCompletionRoutineEx(device, irp, routine, context, success, error, cancel) \
-    ((void)(device), IoSetCompletionRoutine(irp, routine, context, success, error, cancel), STATUS_SUCCESS)
+    ((void)(device), WdmIsRefused("IoSetCompletionRoutineEx", WDM_HERE) ? STATUS_INSUFFICIENT_RESOURCES : \
+        (IoSetCompletionRoutine(irp, routine, context, success, error, cancel), STATUS_SUCCESS))
+BOOLEAN WdmIsRefused(const char *Name, WDM_SITE at); /* whether the run refuses the memory for this call */
 #define IoMarkIrpPending(irp) WdmIoMarkIrpPending((irp), WDM_HERE)
 #define IoCallDriver(target, irp) WdmIoCallDriver((target), (irp), WDM_HERE)
 #define IofCallDriver IoCallDriver

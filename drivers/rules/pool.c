@@ -90,6 +90,26 @@ static NTSTATUS PagedUnderLock(PEXTENSION Ext, PIRP Irp, BOOLEAN Wrong)
     return Done(Irp);
 }
 
+/* Locked by an MDL the block is there at each level. */
+static NTSTATUS TouchesPaged(PEXTENSION Ext, PIRP Irp, BOOLEAN Wrong)
+{
+    KIRQL irql;
+    volatile PULONG block = ExAllocatePoolWithTag(PagedPool, sizeof(ULONG), 'egaP');
+    PMDL mdl = IoAllocateMdl((PVOID)block, sizeof(ULONG), FALSE, FALSE, NULL);
+    *block = 1;
+    if (!Wrong)
+        MmProbeAndLockPages(mdl, KernelMode, IoModifyAccess);
+    KeAcquireSpinLock(&Ext->Lock, &irql);
+    *block = 2; /* told: PagedAtDispatch */
+    KeReleaseSpinLock(&Ext->Lock, irql);
+    if (!Wrong)
+        MmUnlockPages(mdl);
+    IoFreeMdl(mdl);
+    *block = 3;
+    ExFreePoolWithTag((PVOID)block, 'egaP');
+    return Done(Irp);
+}
+
 static NTSTATUS FreesTimer(PEXTENSION Ext, PIRP Irp, BOOLEAN Wrong)
 {
     PBLOCK block = Allocate();
@@ -154,6 +174,7 @@ const CASE_ROW PoolCases[] = {
     { "PoolLeak", Leaks, NULL, NULL }, { "FreedTwice", FreesTwice, NULL, NULL }, { "WrongTag", OtherTag, NULL, NULL }, { "NotPool", FreesMiddle, NULL, NULL },
     { "WrittenAfterFree", WritesLate, NULL, NULL }, { "UsedAfterFree_PageEnds", WritesLate, NULL, NULL }, { "PoolOverrun", WritesBeyond, NULL, NULL },
     { "PoolOverrun_PageEnds", WritesBeyondBuffer, NULL, NULL }, { "ZeroBytes", AsksForNothing, NULL, NULL },
+    { "PagedAtDispatch", TouchesPaged, NULL, NULL },
     { "IrqlTooHigh_PagedPool", PagedUnderLock, NULL, NULL }, { "TimerInFreedMemory", FreesTimer, NULL, NULL },
     { "TimerInFreedMemory_Device", LeavesTimer, NULL, NULL }, { "DpcInFreedMemory", FreesDeferredCall, NULL, NULL },
     { "LockInFreedMemory", FreesLock, NULL, NULL }, { NULL, NULL, NULL, NULL },

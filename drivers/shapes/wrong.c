@@ -49,6 +49,23 @@ static NTSTATUS MarksUnmarked(PDEVICE_OBJECT DeviceObject, PIRP Irp, PVOID Conte
     return STATUS_CONTINUE_COMPLETION;
 }
 
+/* The same, without the call. */
+static NTSTATUS SetsUnmarked(PDEVICE_OBJECT DeviceObject, PIRP Irp, PVOID Context)
+{
+    UNREFERENCED_PARAMETER(DeviceObject), UNREFERENCED_PARAMETER(Context);
+    IoGetCurrentIrpStackLocation(Irp)->Control |= SL_PENDING_RETURNED;
+    return STATUS_CONTINUE_COMPLETION;
+}
+
+/* Sets the bit by hand, and returns what the driver below did. */
+static NTSTATUS SetsAndReturns(PEXTENSION Ext, PIRP Irp)
+{
+    IoGetCurrentIrpStackLocation(Irp)->Control |= SL_PENDING_RETURNED;
+    return ForwardWith(Ext, Irp, Watch, NULL);
+}
+
+static NTSTATUS SetsInRoutine(PEXTENSION Ext, PIRP Irp) { return ForwardWith(Ext, Irp, SetsUnmarked, NULL); }
+
 /* Its routine marks always, and the dispatch hasn't. */
 static NTSTATUS MarksInRoutine(PEXTENSION Ext, PIRP Irp) { return ForwardWith(Ext, Irp, MarksUnmarked, NULL); }
 
@@ -88,6 +105,7 @@ static NTSTATUS MarksAndWaits(PEXTENSION Ext, PIRP Irp)
 const NAMED_SHAPE WrongShapes[] = {
     { "CompletesWhatItSent", CompletesWhatItSent }, { "NothingPrepared", NothingPrepared }, { "Lost", Lost },
     { "RoutineThenCopy", RoutineThenCopy }, { "OtherStatus", OtherStatus }, { "SkipThenComplete", SkipThenComplete },
+    { "SetsAndReturns", SetsAndReturns }, { "SetsInRoutine", SetsInRoutine },
     { "MarksInRoutine", MarksInRoutine }, { "WaitsForEver", WaitsForEver }, { "MarksAndWaits", MarksAndWaits },
     { NULL, NULL },
 };

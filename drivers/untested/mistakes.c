@@ -1,5 +1,6 @@
 /* mistakes.c: a filter without a test of its own. Its mistakes lie where lengths are odd, requests fail or are pended below,
-   starts fail and waits are cancelled. The host's own test finds each; there is none where RIGHT is defined. */
+   starts fail, waits are cancelled, and the device goes. The host's own test finds each; there is none where RIGHT is
+   defined. */
 #include <wdm.h>
 
 #ifdef RIGHT
@@ -10,7 +11,13 @@ enum { IS_RIGHT = 0 };
 #define IOCTL_MISTAKES_COUNT CTL_CODE(FILE_DEVICE_UNKNOWN, 0x905, METHOD_BUFFERED, FILE_ANY_ACCESS)
 #define IOCTL_MISTAKES_WAIT CTL_CODE(FILE_DEVICE_UNKNOWN, 0x906, METHOD_BUFFERED, FILE_ANY_ACCESS)
 
-typedef struct { PDEVICE_OBJECT Lower; ULONG Count; } EXTENSION, *PEXTENSION;
+typedef struct {
+    PDEVICE_OBJECT Lower;
+    ULONG Count;
+    IO_REMOVE_LOCK Reads;
+    KSPIN_LOCK Lock; /* guards Waits */
+    LIST_ENTRY Waits;
+} EXTENSION, *PEXTENSION;
 
 static NTSTATUS Complete(PIRP Irp, NTSTATUS Status, ULONG_PTR Information)
 {
@@ -31,14 +38,19 @@ static NTSTATUS ReadDone(PDEVICE_OBJECT DeviceObject, PIRP Irp, PVOID Context)
 {
     if (Irp->PendingReturned && (IS_RIGHT || NT_SUCCESS(Irp->IoStatus.Status)))
         IoMarkIrpPending(Irp);
+    IoReleaseRemoveLock(Context, Irp);
     return STATUS_CONTINUE_COMPLETION;
 }
 
 static NTSTATUS Read(PDEVICE_OBJECT DeviceObject, PIRP Irp)
 {
+    const PEXTENSION ext = DeviceObject->DeviceExtension;
+    const NTSTATUS status = IoAcquireRemoveLock(&ext->Reads, Irp);
+    if (!NT_SUCCESS(status))
+        return Complete(Irp, status, 0);
     IoCopyCurrentIrpStackLocationToNext(Irp);
-    IoSetCompletionRoutine(Irp, ReadDone, NULL, TRUE, TRUE, TRUE);
-    return IoCallDriver(((PEXTENSION)DeviceObject->DeviceExtension)->Lower, Irp);
+    IoSetCompletionRoutine(Irp, ReadDone, &ext->Reads, TRUE, TRUE, TRUE);
+    return IoCallDriver(ext->Lower, Irp);
 }
 
 /* Has one byte too few for odd lengths, and reads from the packet once it is completed. */
@@ -67,18 +79,47 @@ static NTSTATUS Flush(PDEVICE_OBJECT DeviceObject, PIRP Irp)
 
 static VOID CancelWait(PDEVICE_OBJECT DeviceObject, PIRP Irp)
 {
+    const PEXTENSION ext = DeviceObject->DeviceExtension;
+    KIRQL irql;
     IoReleaseCancelSpinLock(IS_RIGHT ? Irp->CancelIrql : DISPATCH_LEVEL);
+    KeAcquireSpinLock(&ext->Lock, &irql);
+    RemoveEntryList(&Irp->Tail.Overlay.ListEntry);
+    KeReleaseSpinLock(&ext->Lock, irql);
     Complete(Irp, STATUS_CANCELLED, 0);
 }
 
-/* Waits until it is cancelled. */
-static NTSTATUS Wait(PIRP Irp)
+/* Waits until it is cancelled, or the device goes. */
+static NTSTATUS Wait(PEXTENSION Ext, PIRP Irp)
 {
+    KIRQL irql;
+    KeAcquireSpinLock(&Ext->Lock, &irql);
     IoMarkIrpPending(Irp);
+    InsertTailList(&Ext->Waits, &Irp->Tail.Overlay.ListEntry);
     IoSetCancelRoutine(Irp, CancelWait);
-    if (Irp->Cancel && IoSetCancelRoutine(Irp, NULL) != NULL)
+    const BOOLEAN was_cancelled = Irp->Cancel && IoSetCancelRoutine(Irp, NULL) != NULL;
+    if (was_cancelled)
+        RemoveEntryList(&Irp->Tail.Overlay.ListEntry);
+    KeReleaseSpinLock(&Ext->Lock, irql);
+    if (was_cancelled)
         Complete(Irp, STATUS_CANCELLED, 0);
     return STATUS_PENDING;
+}
+
+static PIRP TakeWait(PEXTENSION Ext)
+{
+    PIRP irp = NULL;
+    KIRQL irql;
+    KeAcquireSpinLock(&Ext->Lock, &irql);
+    while (!irp && !IsListEmpty(&Ext->Waits)) {
+        PLIST_ENTRY entry = RemoveHeadList(&Ext->Waits);
+        irp = CONTAINING_RECORD(entry, IRP, Tail.Overlay.ListEntry);
+        if (IoSetCancelRoutine(irp, NULL) == NULL) { /* its cancel routine takes it out */
+            InitializeListHead(entry);
+            irp = NULL;
+        }
+    }
+    KeReleaseSpinLock(&Ext->Lock, irql);
+    return irp;
 }
 
 /* Takes any buffer for one of four bytes. */
@@ -94,7 +135,7 @@ static NTSTATUS Control(PDEVICE_OBJECT DeviceObject, PIRP Irp)
         ext->Count++;
         RtlCopyMemory(Irp->AssociatedIrp.SystemBuffer, &ext->Count, min(length, sizeof ext->Count));
         return Complete(Irp, STATUS_SUCCESS, sizeof ext->Count);
-    case IOCTL_MISTAKES_WAIT: return Wait(Irp);
+    case IOCTL_MISTAKES_WAIT: return Wait(ext, Irp);
     default: return Complete(Irp, STATUS_INVALID_DEVICE_REQUEST, 0);
     }
 }
@@ -127,12 +168,18 @@ static NTSTATUS Start(PEXTENSION Ext, PIRP Irp)
     return Complete(Irp, status == STATUS_PENDING ? STATUS_SUCCESS : status, 0);
 }
 
+/* Forgets the waits when the device goes. */
 static NTSTATUS Pnp(PDEVICE_OBJECT DeviceObject, PIRP Irp)
 {
     const PEXTENSION ext = DeviceObject->DeviceExtension;
     const UCHAR minor = IoGetCurrentIrpStackLocation(Irp)->MinorFunction;
+    PIRP wait;
     if (minor == IRP_MN_START_DEVICE)
         return Start(ext, Irp);
+    while (IS_RIGHT && minor == IRP_MN_REMOVE_DEVICE && (wait = TakeWait(ext)) != NULL)
+        Complete(wait, STATUS_DELETE_PENDING, 0);
+    if (minor == IRP_MN_REMOVE_DEVICE && NT_SUCCESS(IoAcquireRemoveLock(&ext->Reads, Irp)))
+        IoReleaseRemoveLockAndWait(&ext->Reads, Irp);
     if (minor == IRP_MN_REMOVE_DEVICE || minor == IRP_MN_SURPRISE_REMOVAL)
         Irp->IoStatus.Status = STATUS_SUCCESS;
     const NTSTATUS status = Pass(DeviceObject, Irp);
@@ -150,6 +197,9 @@ static NTSTATUS AddDevice(PDRIVER_OBJECT DriverObject, PDEVICE_OBJECT Pdo)
     if (!NT_SUCCESS(status))
         return status;
     const PEXTENSION ext = device->DeviceExtension;
+    IoInitializeRemoveLock(&ext->Reads, 'tsiM', 0, 0);
+    KeInitializeSpinLock(&ext->Lock);
+    InitializeListHead(&ext->Waits);
     ext->Lower = IoAttachDeviceToDeviceStack(device, Pdo);
     device->Flags |= DO_BUFFERED_IO;
     device->Flags &= ~(ULONG)DO_DEVICE_INITIALIZING;
