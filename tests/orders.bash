@@ -68,6 +68,7 @@ a_removal_against_a_send|reply(4) == STATUS_SUCCESS and reply(5) == DeviceGone
 a_removal_against_a_send|deleted(0) and held(lock 0) > 0
 a_hand_over_against_a_drain|reply(4) == yes and held(lock 0) > 0
 a_reuse_against_a_late_cancel|status(a) == STATUS_CANCELLED and owner(a) != ended
+a_cancel_against_a_completion|not made(0) or not made(step 1) or made(2) == false
 END
 while IFS='|' read -r name condition line; do
     [ -n "$name" ] || continue
@@ -87,6 +88,22 @@ a_reuse_against_a_late_cancel|current(a) < 2 and status(a) <= 0|it holds in 15 o
 an_allocation_after_two_frees|reply(5) == NoIrp|it holds in 1 of 1 orders, 1 of 1 outcomes; one of them:
 two_frees_against_an_allocation|reply(3) == NoIrp|it holds in 1 of 5 orders, 1 of 3 outcomes; one of them:
 a_look_between_a_reuse_and_its_label|reply(1) == Stale and reply(2) == Stale|it holds in 4 of 15 orders, 1 of 4 outcomes; one of them:
+END
+
+# Which steps on conditions are made: the table of docs/RIGHT.md.
+while IFS='|' read -r condition status line; do
+    run --never "$condition" ../examples/right/a_cancel_by_a_slot.script
+    ended "steps on conditions, never $condition" "$status" '' "$line"
+done <<'END'
+made(2) and made(3)|0|never: it holds in none of 22 orders, 4 outcomes
+not made(2) and not made(3) and not made(5)|0|never: it holds in none of 22 orders, 4 outcomes
+made(0) == false or made(4) != true|0|never: it holds in none of 22 orders, 4 outcomes
+not made(5) and reply(5) != none|0|never: it holds in none of 22 orders, 4 outcomes
+made(1)|2|it holds in 7 of 22 orders, 2 of 4 outcomes; one of them:
+made(step 2)|2|it holds in 5 of 22 orders, 1 of 4 outcomes; one of them:
+made(3) == true|2|it holds in 5 of 22 orders, 1 of 4 outcomes; one of them:
+made(5)|2|it holds in 12 of 22 orders, 2 of 4 outcomes; one of them:
+not made(1) and reply(1) == none|2|it holds in 15 of 22 orders, 2 of 4 outcomes; one of them:
 END
 
 # The order that is shown is a shortest one: its steps by name, as they are answered, and the seats of its atomic steps.
@@ -121,6 +138,8 @@ a_cancel_against_a_completion|2|not right in 2 of 3 orders, 2 of 3 outcomes; one
 a_removal_against_a_send|2|not right in 55 of 71 orders, 4 of 5 outcomes; one of them:|step 3 was refused: NotDrained
 a_hand_over_against_a_drain|2|not right in 118 of 143 orders, 3 of 5 outcomes; one of them:|step 5 was refused: not_held;remove lock 0 is held, by seat 2 as tag 1
 a_cancel_against_a_completion_by_a_slot|2|not right in 46 of 46 orders, 4 of 4 outcomes; one of them:|step 4 was refused: no_token
+../right/a_cancel_by_a_slot_that_nobody_finishes|2|not right in 3 of 20 orders, 1 of 4 outcomes; one of them:|D0 has a
+../right/a_removal_that_keeps_its_reference|2|not right in 25 of 50 orders, 1 of 3 outcomes; one of them:|remove lock 0 is held, by seat 0 as tag 1
 END
 # What a single order may leave: a packet at its device, a full slot, a cancel routine; and a setup that was refused.
 left() {
@@ -135,6 +154,8 @@ look='{"seat":0,"do":"look","irp":"a"}'
 left '"hold_slot"' '' '{"seat":0,"do":"publish","slot":0,"irp":"a"}'
 ended 'a full slot' 2 '' 'not right in 1 of 1 orders, 1 of 1 outcomes; one of them:'
 meets "a full slot: $told" [ "$told" = 'D0 has a;cancel slot 0 is full: use 1 stands in it' ]
+left '"hold_slot"' '' '{"seat":0,"do":"publish","slot":0,"irp":"a"},{"seat":0,"do":"allocate","size":1,"as":"a"}'
+meets "a packet without a label: $told" [ "$told" = 'D0 has IRP 0.1;cancel slot 0 is full: use 1 stands in it' ]
 left '"hold",0' '' "$look"
 meets "a cancel routine: $told" [ "$told" = 'D0 has a;a still has a cancel routine' ]
 left '"finish",0,4' ',{"seat":0,"do":"mark_pending","by":0,"irp":"a"}' "$look"
@@ -148,7 +169,7 @@ while IFS='|' read -r condition column expected; do
     run --never "$condition" "$examples"/a_cancel_against_a_completion.script
     ended "never '$condition'" 4 "irp_orders: condition refused: column $column: expected $expected"
 done <<'END'
-|1|not, a parenthesis, or reply, owner, status, information, current, live, cancel, deleted, held or removing
+|1|not, a parenthesis, or reply, made, owner, status, information, current, live, cancel, deleted, held or removing
 owner(b) == ended|7|a label of the script, as in owner(a)
 owner a == ended|7|an opening parenthesis, as in owner(a)
 owner(a == ended|9|a closing parenthesis
@@ -162,8 +183,12 @@ held(0) > many|11|a number as 5 or 0x103, or a status as STATUS_PENDING
 owner(a) == D64|13|originator, ended, D2 or none
 deleted(64)|9|the number of a device, as in deleted(0)
 deleted(0) == 1|15|true or false
+made(3)|6|the place of one of the script's steps, from 0, as in reply(7)
+made 2|6|an opening parenthesis, as in owner(a)
+made(2|7|a closing parenthesis
+made(2) == 1|12|true or false
 live(a) live(a)|9|and, or, or the end
-live(a) and|12|not, a parenthesis, or reply, owner, status, information, current, live, cancel, deleted, held or removing
+live(a) and|12|not, a parenthesis, or reply, made, owner, status, information, current, live, cancel, deleted, held or removing
 END
 deep=$(printf 'not %.0s' $(seq 33))
 run --never "${deep}live(a)" "$examples"/a_cancel_against_a_completion.script
@@ -183,7 +208,9 @@ for script in two_preparations_of_one_packet a_look_between_a_reuse_and_its_labe
     meets "$script by ends: $outcomes outcomes, $blocks told" [ "$outcomes" -eq "$blocks" ]
 done
 run --ends --never 'live(a) and reply(0) == done' "$examples"/a_cancel_against_a_completion.script
-ended 'a reply by ends' 4 'irp_orders: condition refused: column 13: expected no reply and no deleted beside --ends, which leaves replies out'
+ended 'a reply by ends' 4 'irp_orders: condition refused: column 13: expected no reply, made or deleted beside --ends, which leaves replies out'
+run --ends --never 'made(0)' "$examples"/a_cancel_against_a_completion.script
+ended 'a step made, by ends' 4 'irp_orders: condition refused: column 1: expected no reply, made or deleted beside --ends, which leaves replies out'
 
 # Two seats that allocate: the outcomes differ in use numbers alone.
 printf '{"form":1,"seats":2,"locks":1,"completions":[],"cancels":[],"dispatches":[],"drivers":[[]],"setup":[],"steps":[%s,%s]}' \
@@ -213,9 +240,9 @@ done
 
 # Bounds that are met.
 run --states 1 "$examples"/a_removal_against_a_send.script
-ended 'one state' 3 'irp_orders: more states than may be side by side; --states N allows more, --ends needs fewer'
+ended 'one state' 3 'irp_orders: more states than may be side by side; --states N allows more, --ends (not beside --right) needs fewer'
 run --outcomes 4 "$examples"/a_removal_against_a_send.script
-ended 'four outcomes' 3 'irp_orders: more outcomes than there may be; --outcomes N allows more, --ends has fewer'
+ended 'four outcomes' 3 'irp_orders: more outcomes than there may be; --outcomes N allows more, --ends (not beside --right) has fewer'
 run --outcomes 5 "$examples"/a_removal_against_a_send.script
 ended 'five outcomes' 0 '' 'outcomes: 5, of 71 orders'
 
@@ -258,7 +285,7 @@ for words in '--show 1' '--never live(a)' --ends; do
     ended "--right $words" 4 'irp_orders: --right stands without --show, --never and --ends; leave out the other word'
 done
 run --right --states 1 "$examples"/a_removal_against_a_send.script
-ended 'one state, right' 3 'irp_orders: more states than may be side by side; --states N allows more, --ends needs fewer'
+ended 'one state, right' 3 'irp_orders: more states than may be side by side; --states N allows more, --ends (not beside --right) needs fewer'
 run "$room/none.script"
 ended 'no such file' 5 "irp_orders: $room/none.script: can't be opened: there is no such file"
 run <.

@@ -4,8 +4,8 @@ irpx prints.
 Usage: orders.py IRP_ORDERS IRPX COUNT RUNS SEED. Of the small scripts of the examples and of COUNT scripts made by chance
 the two have to tell as many orders for the same outcomes: the same replies, and the same packets and devices at the end;
 each transcript that is shown has to be legal by the model, and its calls to change their seat as often as in the order of
-this outcome that does so least often, or less often where the script has steps that aren't calls; and `--right` has to tell how
-many orders don't end right. Of COUNT further scripts
+this outcome that does so least often, or less often where the script has steps that aren't calls; `--right` has to tell how
+many orders don't end right; and `--never`, in how many a step is made. Of COUNT further scripts
 that free and allocate packets the same is compared, and, where one seat makes all their steps, the transcript that is
 shown with the one that irpx writes. Of each race, RUNS runs on as many workers as it has seats have to print one of the
 outcomes; so does each of RUNS / 4 runs of a third as many scripts of either kind. As many runs as there are processors go on at
@@ -114,16 +114,38 @@ def told(text, script):
     return found, None
 
 
-def judged(text, orders, right):
-    """Returns what is wrong with what `--right` tells of a script with so many orders, so many of them right; or None."""
-    it = subprocess.run([IRP_ORDERS, "--right"], input=text, capture_output=True, timeout=300)
+def never(text, wanted, condition, meets):
+    """Returns what is wrong with what `--never` tells of a condition, where orders meet it whose answers of steps, by place, do;
+    or None."""
+    orders = sum(wanted[0].values())
+    count = sum(many for (replies, _, _), many in wanted[0].items() if meets(dict(read_json(replies))))
+    it = subprocess.run([IRP_ORDERS, "--never", condition], input=text, capture_output=True, timeout=300)
     line = it.stdout.decode().split("\n")[0]
+    start = f"it holds in {count} of {orders} orders, " if count else f"never: it holds in none of {orders} orders, "
+    is_so = it.returncode == (2 if count else 0) and line.startswith(start)
+    return None if is_so else f"--never {condition}: expected {start}.., got status {it.returncode}, {line}"
+
+
+def judged(text, wanted):
+    """Returns what is wrong with what `--right` tells of a script whose orders are these, or None."""
+    orders, right = sum(wanted[0].values()), wanted[2]
+    it = subprocess.run([IRP_ORDERS, "--right"], input=text, capture_output=True, timeout=300)
+    told = it.stdout.decode()
+    line = told.split("\n")[0]
     if right == orders:
         is_so = it.returncode == 0 and line.startswith(f"right: {orders} orders, ")
     else:
         is_so = it.returncode == 2 and line.startswith(f"not right in {orders - right} of {orders} orders, ")
-        is_so = is_so and b"\nwrong: " in it.stdout
+        is_so = is_so and "\nwrong: " in told
     return None if is_so else f"expected {right} of {orders} orders right, got status {it.returncode}, {line}"
+
+
+def made(text, script, wanted):
+    """Returns what is wrong with in how many orders a step is made, by `--never`, or None: the last one on a condition, or the
+    last one."""
+    places = range(len(script.steps))
+    place = max((at for at in places if "if" in script.steps[at]), default=len(places) - 1)
+    return never(text, wanted, f"made({place})", lambda replies: place in replies) if places else None
 
 
 def differs(script, wanted, got):
@@ -153,7 +175,7 @@ def compare(name, text):
     try:
         found, wrong = told(text, script)
         if found is not None:
-            wrong = differs(script, wanted, found) or judged(text, sum(wanted[0].values()), wanted[2])
+            wrong = differs(script, wanted, found) or judged(text, wanted) or made(text, script, wanted)
     except (ValueError, Shape) as error:
         wrong = str(error) or "the transcript of an outcome has other steps"
     tally.note(KIND, f"{name}: {wrong}", wrong is None)

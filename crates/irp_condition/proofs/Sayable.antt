@@ -48,6 +48,7 @@ Proper (token ∷ tokens) = (is_word token.kind ≡ true → is_word_text token.
 -- a label's place, a number of a step, a device or a lock that a text can name
 abbrev pub CanName : Scope → Name → ℕ → Type 0
 CanName scope of_name.Reply place = (place < scope.steps) × (place < 2 ^ 64)
+CanName scope of_name.Made place = (place < scope.steps) × (place < 2 ^ 64)
 CanName scope of_name.Deleted place = place < 64
 CanName scope of_name.Held place = (place < scope.locks) × (place < 2 ^ 64)
 CanName scope of_name.Removing place = (place < scope.locks) × (place < 2 ^ 64)
@@ -189,6 +190,7 @@ read_label reader tokens read proper is =
 read_subject : (reader : Reader) (name : Name) (tokens : List Token) (read : ℕ × List Token) → Proper tokens
     → subject_at reader name tokens ≡ found read → CanName reader.scope name read.0 × Proper read.1
 read_subject reader of_name.Reply tokens read proper is = let low = read_below reader (codes "step") reader.scope.steps _ tokens read proper is in ((low.0, low.1), low.2)
+read_subject reader of_name.Made tokens read proper is = let low = read_below reader (codes "step") reader.scope.steps _ tokens read proper is in ((low.0, low.1), low.2)
 read_subject reader of_name.Owner tokens read proper is = read_label reader tokens read proper is
 read_subject reader of_name.Status tokens read proper is = read_label reader tokens read proper is
 read_subject reader of_name.Information tokens read proper is = read_label reader tokens read proper is

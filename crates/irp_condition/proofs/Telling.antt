@@ -89,6 +89,7 @@ blank_piece = lone_piece of_kind.Blank 32 refl
 
 name_piece : (name : Name) → is_word_text (word_of_name name) ≡ true
 name_piece of_name.Reply = refl
+name_piece of_name.Made = refl
 name_piece of_name.Owner = refl
 name_piece of_name.Status = refl
 name_piece of_name.Information = refl
@@ -197,6 +198,11 @@ subject_stands scope of_name.Reply place can = (
   numbered scope of_name.Reply place can.1 refl
       (λ reader column rest same. number_read reader 115 (codes "tep") reader.scope.steps place column _ rest (omega arith) (subst (λ (scope : Scope). place < scope.steps) (sym same) can.0) can.1),
 )
+subject_stands scope of_name.Made place can = (
+  decimal place,
+  numbered scope of_name.Made place can.1 refl
+      (λ reader column rest same. number_read reader 115 (codes "tep") reader.scope.steps place column _ rest (omega arith) (subst (λ (scope : Scope). place < scope.steps) (sym same) can.0) can.1),
+)
 subject_stands scope of_name.Held place can = (
   decimal place,
   numbered scope of_name.Held place can.1 refl
@@ -221,6 +227,7 @@ name_found : (reader : Reader) (name : Name) (column : ℕ) (rest : List Token) 
     → name_at reader (record { kind = of_kind.Word; text = word_of_name name; column = column } ∷ rest) ≡ found (name, rest)
 name_found reader of_name.Reply column rest told = rw told refl
 name_found reader of_name.Deleted column rest told = rw told refl
+name_found reader of_name.Made column rest told = rw told refl
 name_found reader of_name.Owner column rest told = refl
 name_found reader of_name.Status column rest told = refl
 name_found reader of_name.Information column rest told = refl
@@ -272,6 +279,7 @@ sign_found of_sign.AtLeast column rest = refl
 name_is : (name : Name) (place : ℕ) → name_of_fact (fact_of name place) ≡ name
 name_is of_name.Reply place = refl
 name_is of_name.Deleted place = refl
+name_is of_name.Made place = refl
 name_is of_name.Owner place = refl
 name_is of_name.Status place = refl
 name_is of_name.Information place = refl

@@ -60,11 +60,17 @@ abbrev pub told_value : Told → Value
 told_value (told.Word reply) = answer_of reply
 told_value (told.Call reply) = reply_of reply
 
--- what the step was answered; missing where there is no such step
+-- what the step was answered; missing where it was passed over
 abbrev pub reply_value : Option (Option Told) → Value
 reply_value None = Missing
 reply_value (Some None) = Missing
 reply_value (Some (Some told)) = told_value told
+
+-- whether the step was made; one that was passed over wasn't answered
+abbrev pub is_made : Option (Option Told) → Bool
+is_made None = false
+is_made (Some None) = false
+is_made (Some (Some told)) = true
 
 -- a fact of a live packet
 abbrev pub packet_value : Fact → Packet → Value
@@ -103,6 +109,7 @@ is_true (Some truth) = truth
 
 abbrev pub value_of : Facts → Fact → Value
 value_of facts (fact.Reply step) = reply_value (slice_get facts.replies step)
+value_of facts (fact.Made step) = Truth (is_made (slice_get facts.replies step))
 value_of facts (fact.Owner label) = label_value (fact.Owner label) (slice_get facts.labels label)
 value_of facts (fact.Status label) = label_value (fact.Status label) (slice_get facts.labels label)
 value_of facts (fact.Information label) = label_value (fact.Information label) (slice_get facts.labels label)

@@ -6,7 +6,7 @@ use Rattle.irp_condition.specs.declared.condition.Comparison.TheVariants.{Equal,
 use Rattle.irp_condition.specs.declared.naming.Joint.{Joint}
 use Rattle.irp_condition.specs.declared.naming.Joint.TheVariants.{And, Or}
 use Rattle.irp_condition.specs.declared.naming.Name.{Name}
-use Rattle.irp_condition.specs.declared.naming.Name.TheVariants.{Reply, Owner, Status, Information, Current, Live, Cancel, Deleted, Held, Removing}
+use Rattle.irp_condition.specs.declared.naming.Name.TheVariants.{Reply, Made, Owner, Status, Information, Current, Live, Cancel, Deleted, Held, Removing}
 use Rattle.irp_condition.specs.declared.naming.Sort.{Sort}
 use Rattle.irp_condition.specs.declared.naming.Sort.TheVariants as sort
 
@@ -19,6 +19,7 @@ word_of Or = codes "or"
 abbrev pub name_of : List ℕ → Option Name
 name_of word =
     if bytes_eq word (codes "reply") then Some Reply else
+    (if bytes_eq word (codes "made") then Some Made else
     (if bytes_eq word (codes "owner") then Some Owner else
     (if bytes_eq word (codes "status") then Some Status else
     (if bytes_eq word (codes "information") then Some Information else
@@ -27,7 +28,7 @@ name_of word =
     (if bytes_eq word (codes "cancel") then Some Cancel else
     (if bytes_eq word (codes "deleted") then Some Deleted else
     (if bytes_eq word (codes "held") then Some Held else
-    (if bytes_eq word (codes "removing") then Some Removing else None)))))))))
+    (if bytes_eq word (codes "removing") then Some Removing else None))))))))))
 
 -- the comparison that a sign is
 abbrev pub comparison_of : List ℕ → Option Comparison
@@ -42,6 +43,7 @@ comparison_of sign =
 -- which values a fact of this name can have
 abbrev pub sort_of : Name → Sort
 sort_of Reply = sort.Reply
+sort_of Made = sort.Truth
 sort_of Owner = sort.Owner
 sort_of Status = sort.Number
 sort_of Information = sort.Number
@@ -55,6 +57,7 @@ sort_of Removing = sort.Truth
 -- only what steps were answered tells a fact of this name
 abbrev pub needs_replies : Name → Bool
 needs_replies Reply = true
+needs_replies Made = true
 needs_replies Owner = false
 needs_replies Status = false
 needs_replies Information = false

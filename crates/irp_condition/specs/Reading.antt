@@ -100,6 +100,7 @@ label_at reader tokens =
 -- what a fact of this name is of, as it stands between the parentheses
 abbrev pub subject_at : Reader → Name → List Token → Found (ℕ × List Token)
 subject_at reader name.Reply tokens = number_below reader (codes "step") reader.scope.steps expected.Step tokens
+subject_at reader name.Made tokens = number_below reader (codes "step") reader.scope.steps expected.Step tokens
 subject_at reader name.Owner tokens = label_at reader tokens
 subject_at reader name.Status tokens = label_at reader tokens
 subject_at reader name.Information tokens = label_at reader tokens
@@ -113,6 +114,7 @@ subject_at reader name.Removing tokens = number_below reader (codes "lock") read
 -- the fact of this name
 abbrev pub fact_of : Name → ℕ → Fact
 fact_of name.Reply place = fact.Reply place
+fact_of name.Made place = fact.Made place
 fact_of name.Owner place = fact.Owner place
 fact_of name.Status place = fact.Status place
 fact_of name.Information place = fact.Information place

@@ -59,6 +59,7 @@ blank = record { kind = kind.Blank; text = codes " " }
 -- the name of a fact
 abbrev pub name_of_fact : Fact → Name
 name_of_fact (fact.Reply place) = name.Reply
+name_of_fact (fact.Made place) = name.Made
 name_of_fact (fact.Owner place) = name.Owner
 name_of_fact (fact.Status place) = name.Status
 name_of_fact (fact.Information place) = name.Information
@@ -72,6 +73,7 @@ name_of_fact (fact.Removing place) = name.Removing
 -- the word of a name
 abbrev pub word_of_name : Name → List ℕ
 word_of_name name.Reply = codes "reply"
+word_of_name name.Made = codes "made"
 word_of_name name.Owner = codes "owner"
 word_of_name name.Status = codes "status"
 word_of_name name.Information = codes "information"
@@ -99,6 +101,7 @@ label_text None = []
 -- what a fact is of: the text of a label, or a number
 abbrev pub subject_text : Scope → Fact → List ℕ
 subject_text scope (fact.Reply place) = decimal place
+subject_text scope (fact.Made place) = decimal place
 subject_text scope (fact.Owner place) = label_text (slice_get scope.labels.now place)
 subject_text scope (fact.Status place) = label_text (slice_get scope.labels.now place)
 subject_text scope (fact.Information place) = label_text (slice_get scope.labels.now place)

@@ -7,6 +7,8 @@ use crate::value::Value;
 pub enum Fact {
     /// What this step was answered.
     Reply(u32),
+    /// Whether this step was made, and not passed over.
+    Made(u32),
     /// Who owns the packet of this label.
     Owner(u32),
     /// The status in the packet of this label.

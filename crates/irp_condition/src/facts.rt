@@ -25,7 +25,7 @@ pub struct Packet {
 /// What an order leaves.
 #[derive(Drop)]
 pub struct Facts {
-    /// What each of the script's `steps` was answered, by place; none where that isn't known.
+    /// What each of the script's `steps` was answered, by place; none where it was passed over, or that isn't known.
     pub replies: Row<Option<Told>>,
     /// For each label of the script, by place, the live packet that it names; none where it names none.
     pub labels: Row<Option<Packet>>,

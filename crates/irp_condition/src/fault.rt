@@ -34,7 +34,7 @@ impl fmt::Display for Expected {
     fn fmt<W: fmt::Write>(&self, f: &mut fmt::Formatter<W>) -> fmt::Result {
         f.write_str(match self {
             Expected::Condition => {
-                "not, a parenthesis, or reply, owner, status, information, current, live, cancel, deleted, held or removing"
+                "not, a parenthesis, or reply, made, owner, status, information, current, live, cancel, deleted, held or removing"
             }
             Expected::Open => "an opening parenthesis, as in owner(a)",
             Expected::Close => "a closing parenthesis",
@@ -49,7 +49,7 @@ impl fmt::Display for Expected {
             Expected::Reply => {
                 "a refusal as Ended, a number, a status, done, an answer as standing, D2, true, false or none"
             }
-            Expected::End => "no reply and no deleted beside --ends, which leaves replies out",
+            Expected::End => "no reply, made or deleted beside --ends, which leaves replies out",
             Expected::Joint => "and, or, or the end",
             Expected::Shallower => "at most 32 parentheses and nots within each other",
         })

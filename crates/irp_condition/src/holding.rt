@@ -9,6 +9,7 @@ ghost use Rattle.irp_condition.specs.Holding.{
   answer_of,
   held_value,
   is_live,
+  is_made,
   is_true,
   label_value,
   packet_value,
@@ -52,7 +53,7 @@ fn answer_of(reply: WordReply) -> Value
 
 /// What a step was answered, as a value. A new packet is the number of its use, a cancel routine its number, and what a
 /// Look sees is the packet's owner.
-fn told_value(told: Told) -> Value
+pub fn told_value(told: Told) -> Value
     ensures { result ≡ told_value told }
 {
     match told {
@@ -130,6 +131,13 @@ fn reply_value(step: u32, replies: &[Option<Told>]) -> Value
     }
 }
 
+/// Whether a step was made.
+fn is_made(step: u32, replies: &[Option<Told>]) -> bool
+    ensures { result ≡ is_made (slice_get replies.now step) }
+{
+    matches!(replies.get(step as usize).copied(), Some(Some(_)))
+}
+
 /// Whether a device was deleted; one that was never created wasn't.
 fn is_deleted(device: u32, deleted: &[bool]) -> bool
     ensures { result ≡ is_true (slice_get deleted.now device) }
@@ -143,6 +151,7 @@ fn value_of(fact: Fact, facts: &Facts) -> Value
 {
     match fact {
         Fact::Reply(step) => reply_value(step, facts.replies.as_slice()),
+        Fact::Made(step) => Value::Truth(is_made(step, facts.replies.as_slice())),
         Fact::Owner(label)
         | Fact::Status(label)
         | Fact::Information(label)

@@ -14,11 +14,11 @@ mod value;
 mod words;
 mod writing;
 
-pub use condition::Condition;
+pub use condition::{Comparison, Condition, Fact, Term};
 pub use facts::{Facts, Packet, Told};
 pub use fault::{Expected, Fault, Unread};
-pub use holding::holds;
+pub use holding::{holds, told_value};
 pub use parsing::read_condition;
 pub use scope::Scope;
 pub use value::{Answer, Named, Value};
-pub use writing::text_of;
+pub use writing::{text_of, word_of_answer};

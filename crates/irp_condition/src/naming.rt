@@ -10,6 +10,7 @@ use crate::words::is;
 #[derive(Clone, Copy)]
 pub enum Name {
     Reply,
+    Made,
     Owner,
     Status,
     Information,
@@ -57,6 +58,8 @@ pub fn name_of(word: &[u8]) -> Option<Name>
 {
     Some(if is(word, "reply") {
         Name::Reply
+    } else if is(word, "made") {
+        Name::Made
     } else if is(word, "owner") {
         Name::Owner
     } else if is(word, "status") {
@@ -109,7 +112,7 @@ pub fn sort_of(name: Name) -> Sort
         Name::Reply => Sort::Reply,
         Name::Owner => Sort::Owner,
         Name::Status | Name::Information | Name::Current | Name::Held => Sort::Number,
-        Name::Live | Name::Cancel | Name::Deleted | Name::Removing => Sort::Truth,
+        Name::Made | Name::Live | Name::Cancel | Name::Deleted | Name::Removing => Sort::Truth,
     }
 }
 
@@ -117,5 +120,5 @@ pub fn sort_of(name: Name) -> Sort
 pub fn needs_replies(name: Name) -> bool
     ensures { result ≡ spec.needs_replies name }
 {
-    matches!(name, Name::Reply | Name::Deleted)
+    matches!(name, Name::Reply | Name::Made | Name::Deleted)
 }

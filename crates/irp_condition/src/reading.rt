@@ -180,7 +180,7 @@ fn place_at<'a>(
 {
     let Scope { steps, locks, .. } = reader.scope;
     match name {
-        Name::Reply => number_below(reader, tokens, "step", steps, Expected::Step),
+        Name::Reply | Name::Made => { number_below(reader, tokens, "step", steps, Expected::Step) }
         Name::Held | Name::Removing => {
             number_below(reader, tokens, "lock", locks, Expected::Lock)
         }
@@ -195,6 +195,7 @@ fn fact_of(name: Name, place: u32) -> Fact
 {
     match name {
         Name::Reply => Fact::Reply(place),
+        Name::Made => Fact::Made(place),
         Name::Owner => Fact::Owner(place),
         Name::Status => Fact::Status(place),
         Name::Information => Fact::Information(place),

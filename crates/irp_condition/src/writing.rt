@@ -30,6 +30,7 @@ fn name_of_fact(fact: Fact) -> Name
 {
     match fact {
         Fact::Reply(_) => Name::Reply,
+        Fact::Made(_) => Name::Made,
         Fact::Owner(_) => Name::Owner,
         Fact::Status(_) => Name::Status,
         Fact::Information(_) => Name::Information,
@@ -48,6 +49,7 @@ fn word_of_name(name: Name) -> &'static str
 {
     match name {
         Name::Reply => "reply",
+        Name::Made => "made",
         Name::Owner => "owner",
         Name::Status => "status",
         Name::Information => "information",
@@ -90,9 +92,11 @@ fn put_subject(text: &mut String, scope: Scope<'_>, fact: Fact) -> Result<(), Al
         ≡ string_bytes text.old ++ spec.subject_text scope.entry fact) }
 {
     match fact {
-        Fact::Reply(place) | Fact::Deleted(place) | Fact::Held(place) | Fact::Removing(place) => {
-            write!(text, "{place}")
-        }
+        Fact::Reply(place)
+        | Fact::Made(place)
+        | Fact::Deleted(place)
+        | Fact::Held(place)
+        | Fact::Removing(place) => write!(text, "{place}"),
         Fact::Owner(label)
         | Fact::Status(label)
         | Fact::Information(label)
@@ -114,7 +118,7 @@ fn put_fact(text: &mut String, scope: Scope<'_>, fact: Fact) -> Result<(), Alloc
 }
 
 /// The word that an answer is written by.
-fn word_of_answer(answer: Answer) -> &'static str
+pub fn word_of_answer(answer: Answer) -> &'static str
     ensures { result.now ≡ spec.word_of_answer answer }
 {
     match answer {

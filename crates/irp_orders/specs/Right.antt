@@ -8,8 +8,6 @@ use Rattle.irp_types.specs.declared.location.Owner.TheVariants as owner
 use Rattle.irp_types.specs.declared.reply.Reply.{Reply}
 use Rattle.irp_types.specs.declared.reply.Reply.TheVariants as reply
 use Rattle.irp_transcript.specs.Transcripts.{TranscriptValue}
-use Rattle.irp_transcript.specs.declared.word_line.WordReply.{WordReply}
-use Rattle.irp_transcript.specs.declared.word_line.WordReply.TheVariants as word
 use Rattle.irp_machine.specs.Replays.{IsReplay}
 use Rattle.irp_machine.specs.declared.live_end.LiveEnd.{LiveEnd}
 use Rattle.irp_machine.specs.declared.outcome.End.{End}
@@ -17,29 +15,20 @@ use Rattle.irp_machine.specs.declared.outcome.LockEnd.{LockEnd}
 use Rattle.irp_machine.specs.declared.outcome.SlotEnd.{SlotEnd}
 use Rattle.irp_plain.specs.declared.answered.Answered.{Answered}
 use Rattle.irp_plain.specs.declared.answered.Answered.TheVariants as answered
+use Rattle.irp_script.specs.Conditions.{is_refused_word}
 use Rattle.irp_script_reader.specs.declared.act.Step.{Step}
 use Rattle.irp_script_reader.specs.declared.script.ScriptParts.{ScriptParts}
 use Rattle.irp_orders.specs.Facts.{answers_of}
 
 -- ---- what is refused
 
--- a remove lock or a cancel slot refused its step. Right drivers may be answered DeletePending, Busy, Lost and Nothing
-abbrev pub is_refused_word : WordReply → Bool
-is_refused_word word.SeatFull = true
-is_refused_word word.NotHeld = true
-is_refused_word word.AlreadyRemoving = true
-is_refused_word word.NoLock = true
-is_refused_word word.Used = true
-is_refused_word word.NotStanding = true
-is_refused_word word.NoSlot = true
-is_refused_word word.NoToken = true
-is_refused_word other = false
-
 -- a call was refused. Right drivers may be answered FALSE, and that no cancel routine was set before
 abbrev pub is_refused_reply : Reply → Bool
 is_refused_reply (reply.Refused refusal) = true
 is_refused_reply other = false
 
+-- a step was refused: by the manager, or by a remove lock or a cancel slot. Right drivers may be answered DeletePending,
+-- Busy, Lost and Nothing
 abbrev pub is_refused : Answered → Bool
 is_refused (answered.Reply reply) = is_refused_reply reply
 is_refused (answered.Word reply) = is_refused_word reply

@@ -108,9 +108,9 @@ fn bound_words(met: NotFound) -> &'static str {
     match met {
         NotFound::Memory => "out of memory",
         NotFound::States =>
-            "more states than may be side by side; --states N allows more, --ends needs fewer",
+            "more states than may be side by side; --states N allows more, --ends (not beside --right) needs fewer",
         NotFound::Outcomes =>
-            "more outcomes than there may be; --outcomes N allows more, --ends has fewer",
+            "more outcomes than there may be; --outcomes N allows more, --ends (not beside --right) has fewer",
         NotFound::Steps => "an order has 999,999 steps or more; make the script shorter",
         NotFound::Orders => "2^128 orders or more lead to one state; make the script shorter",
     }

@@ -47,7 +47,7 @@ pub fn answers_of(
 }
 
 /// An answer as conditions see it.
-fn seen_of(answer: Answered) -> Told
+pub fn seen_of(answer: Answered) -> Told
     ensures { result ≡ spec.seen_of answer }
 {
     match answer {

@@ -28,11 +28,11 @@ orders end so, the replies in which outcomes differ, the live packets, the remov
   --outcomes N       at most N outcomes; 20,000 without it
   --help             prints this
 
-A condition joins facts by and, or, not and parentheses. deleted(0), live(a), cancel(a) and removing(lock 0) are true or
-false; owner(a), status(a), information(a), current(a), held(lock 0) and reply(7) are compared by ==, !=, <, <=, > or >=. A
-packet is named by its label, a step by its place among the script's steps, from 0. Owners are originator, ended, D2 (or
-device 2) and none; replies are a refusal as Ended, a status as STATUS_PENDING or 0x103, a number, done, standing, taken,
-lost, yes, busy and so on.
+A condition joins facts by and, or, not and parentheses. made(7), deleted(0), live(a), cancel(a) and removing(lock 0) are
+true or false; owner(a), status(a), information(a), current(a), held(lock 0) and reply(7) are compared by ==, !=, <, <=, >
+or >=. A packet is named by its label, a step by its place among the script's steps, from 0. made(7) is false where step 7
+was passed over; reply(7) is none there. Owners are originator, ended, D2 (or device 2) and none; replies are a refusal as
+Ended, a status as STATUS_PENDING or 0x103, a number, done, standing, taken, lost, yes, busy and so on.
 
 Exit status: 0 done (--never: it never holds; --right: every order is right), 1 the script is refused, 2 --never: it holds
 in an order, --right: one isn't right, 3 out of memory or a bound is met, 4 other words, 5 input or output failed.

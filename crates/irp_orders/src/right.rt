@@ -14,27 +14,10 @@ ghost use Rattle.irp_orders.specs.Right.{
 
 use crate::facts::answers_of;
 use irp_machine::{Answered, End, LiveEnd, LockEnd, SlotEnd};
-use irp_script_reader::Step;
-use irp_transcript::WordReply;
+use irp_script::expects_word;
+use irp_script_reader::{ExpectedAnswer, Step};
 use irp_types::{Entry, Owner, Reply};
 use std::alloc::{AllocError, Global};
-
-/// Whether a remove lock or a cancel slot refused its step.
-fn is_refused_word(reply: WordReply) -> bool
-    ensures { result ≡ spec.is_refused_word reply }
-{
-    matches!(
-        reply,
-        WordReply::SeatFull
-            | WordReply::NotHeld
-            | WordReply::AlreadyRemoving
-            | WordReply::NoLock
-            | WordReply::Used
-            | WordReply::NotStanding
-            | WordReply::NoSlot
-            | WordReply::NoToken
-    )
-}
 
 /// Whether a call was refused.
 fn is_refused_reply(reply: Reply) -> bool
@@ -50,7 +33,7 @@ pub fn is_refused(answer: Answered) -> bool
 {
     match answer {
         Answered::Reply(reply) => is_refused_reply(reply),
-        Answered::Word(reply) => is_refused_word(reply),
+        Answered::Word(reply) => expects_word(ExpectedAnswer::AnyRefusal, reply),
     }
 }
 

@@ -1,37 +1,23 @@
 //! What isn't right of an outcome, in words.
 
+use crate::facts::seen_of;
 use crate::found::Found;
 use crate::right::{is_accepted, is_back, is_empty, is_released, is_taken, is_without_routine};
 use crate::table::Columns;
+use irp_condition::{Value, told_value, word_of_answer};
 use irp_listing::put_line;
 use irp_machine::{Answered, Holder, LiveEnd, LockEnd};
 use irp_names::{PacketWords, refusal_name};
-use irp_transcript::WordReply;
-use irp_types::{Entry, IrpRef, Owner, Reply};
+use irp_types::{Entry, IrpRef, Owner};
 use std::alloc::{AllocError, Global};
 use std::fmt;
 
-/// How a remove lock or a cancel slot refused a step, as conditions name it.
-fn refusal_word(reply: WordReply) -> &'static str {
-    match reply {
-        WordReply::SeatFull => "seat_full",
-        WordReply::NotHeld => "not_held",
-        WordReply::AlreadyRemoving => "already_removing",
-        WordReply::NoLock => "no_lock",
-        WordReply::Used => "used",
-        WordReply::NotStanding => "not_standing",
-        WordReply::NoSlot => "no_slot",
-        WordReply::NoToken => "no_token",
-        _ => "",
-    }
-}
-
-/// Why a step was refused; no word where it wasn't.
+/// Why a step was refused, as conditions name it.
 fn reason_of(answer: Answered) -> &'static str {
-    match answer {
-        Answered::Reply(Reply::Refused(refusal)) => refusal_name(refusal),
-        Answered::Reply(_) => "",
-        Answered::Word(reply) => refusal_word(reply),
+    match told_value(seen_of(answer)) {
+        Value::Refused(refusal) => refusal_name(refusal),
+        Value::Answer(answer) => word_of_answer(answer),
+        _ => "",
     }
 }
 
@@ -53,6 +39,15 @@ impl fmt::Display for LiveName<'_> {
             }
         }
         write!(f, "{}", PacketWords(IrpRef { slot, use_no }))
+    }
+}
+
+/// The name of a live packet of an outcome.
+fn name_of<'a>(columns: &Columns<'a>, found: &'a Found, live: &'a LiveEnd) -> LiveName<'a> {
+    LiveName {
+        live,
+        labels: columns.labels,
+        named: found.outcome.end.labels.as_slice(),
     }
 }
 
@@ -107,27 +102,14 @@ fn put_refused(alloc: Global, out: &mut Vec<u8>, found: &Found) -> Result<(), Al
 
 /// A packet that a device has.
 #[derive(Clone, Copy)]
-struct KeptWords<'a> {
-    live: &'a LiveEnd,
-    labels: &'a [String],
-    named: &'a [IrpRef],
-}
+struct KeptWords<'a>(LiveName<'a>);
 
 impl fmt::Display for KeptWords<'_> {
     fn fmt<W: fmt::Write>(&self, f: &mut fmt::Formatter<W>) -> fmt::Result {
-        let (live, labels, named) = (self.live, self.labels, self.named);
-        if let Owner::Device(device) = live.owner {
+        if let Owner::Device(device) = self.0.live.owner {
             write!(f, "D{} has ", device.0)?;
         }
-        write!(
-            f,
-            "{}",
-            LiveName {
-                live,
-                labels,
-                named
-            }
-        )
+        write!(f, "{}", self.0)
     }
 }
 
@@ -138,15 +120,9 @@ fn put_kept(
     columns: &Columns<'_>,
     found: &Found,
 ) -> Result<(), AllocError> {
-    let end = &found.outcome.end;
-    for live in end.packets.as_slice() {
+    for live in found.outcome.end.packets.as_slice() {
         if !is_back(live) {
-            let words = KeptWords {
-                live,
-                labels: columns.labels,
-                named: end.labels.as_slice(),
-            };
-            put_wrong(alloc, out, &words)?;
+            put_wrong(alloc, out, &KeptWords(name_of(columns, found, live)))?;
         }
     }
     Ok(())
@@ -216,21 +192,11 @@ fn put_full(alloc: Global, out: &mut Vec<u8>, found: &Found) -> Result<(), Alloc
 
 /// A packet that still has a cancel routine.
 #[derive(Clone, Copy)]
-struct LeftWords<'a> {
-    live: &'a LiveEnd,
-    labels: &'a [String],
-    named: &'a [IrpRef],
-}
+struct LeftWords<'a>(LiveName<'a>);
 
 impl fmt::Display for LeftWords<'_> {
     fn fmt<W: fmt::Write>(&self, f: &mut fmt::Formatter<W>) -> fmt::Result {
-        let (live, labels, named) = (self.live, self.labels, self.named);
-        let name = LiveName {
-            live,
-            labels,
-            named,
-        };
-        write!(f, "{} still has a cancel routine", name)
+        write!(f, "{} still has a cancel routine", self.0)
     }
 }
 
@@ -241,15 +207,9 @@ fn put_left(
     columns: &Columns<'_>,
     found: &Found,
 ) -> Result<(), AllocError> {
-    let end = &found.outcome.end;
-    for live in end.packets.as_slice() {
+    for live in found.outcome.end.packets.as_slice() {
         if !is_without_routine(live) {
-            let words = LeftWords {
-                live,
-                labels: columns.labels,
-                named: end.labels.as_slice(),
-            };
-            put_wrong(alloc, out, &words)?;
+            put_wrong(alloc, out, &LeftWords(name_of(columns, found, live)))?;
         }
     }
     Ok(())
