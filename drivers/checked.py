@@ -192,6 +192,56 @@ def notes(bench):
     yield "what packets leave behind", None if told else said[-500:]
 
 
+COPIED = """#include <wdm.h>
+#include "wdm_test.h"
+static NTSTATUS Read(PDEVICE_OBJECT DeviceObject, PIRP Irp)
+{
+    ULONG length = IoGetCurrentIrpStackLocation(Irp)->Parameters.Read.Length;
+    PUCHAR block = ExAllocatePoolWithTag(PagedPool, 64, 'ypoC');
+    KIRQL irql;
+    KeRaiseIrql(DISPATCH_LEVEL, &irql);
+    RtlCopyMemory(block, "a copy of so many bytes", length);
+    KeLowerIrql(irql);
+    KeRaiseIrql(DISPATCH_LEVEL, &irql);
+    RtlCopyMemory(block, "another one, as long as it", length);
+    KeLowerIrql(irql);
+    ExFreePoolWithTag(block, 'ypoC');
+    Irp->IoStatus.Status = STATUS_SUCCESS;
+    Irp->IoStatus.Information = 0;
+    IoCompleteRequest(Irp, IO_NO_INCREMENT);
+    return STATUS_SUCCESS;
+}
+NTSTATUS DriverEntry(PDRIVER_OBJECT DriverObject, PUNICODE_STRING RegistryPath)
+{
+    PDEVICE_OBJECT device;
+    DriverObject->MajorFunction[IRP_MJ_READ] = Read;
+    return IoCreateDevice(DriverObject, 0, NULL, FILE_DEVICE_NULL, 0, FALSE, &device);
+}
+int main(void)
+{
+    PDRIVER_OBJECT driver = WdmLoadDriver("copied", DriverEntry);
+    for (int i = 0; i < 3; i++)
+        WdmSend(driver->DeviceObject, IRP_MJ_READ, 0, 16);
+    return WdmFinish();
+}
+"""
+
+
+def copied(bench):
+    """What is touched through a function of C is told by the driver's line, each line once, and how often it came. By a
+    schedule these functions stand in the program."""
+    path = bench.folder("copied") + "/copied.c"
+    with open(path, "w", encoding="utf-8") as it:
+        it.write(COPIED)
+    lines = [n for n, text in enumerate(COPIED.splitlines(), 1) if "RtlCopyMemory" in text]
+    for name, words in ("real threads", []), ("a schedule", ["--shake", "1"]):
+        said, _ = ran(bench, *words, path)
+        first = re.findall(r"FAULT PagedAtDispatch \(0xD1\): (copied.c:\d+ in Read)", said)
+        again = re.findall(r"FAULT PagedAtDispatch 3 times at the same place \((copied.c:\d+ in Read)\)", said)
+        well = first == again == [f"copied.c:{line} in Read" for line in lines]
+        yield f"touches through a function of C, by {name}", None if well else said[-900:]
+
+
 def mistakes_told(bench, mistake):
     """The mistake is told first by the run that mistakes.py names, as the rule and where it names."""
     folder = bench.folder("mistake " + mistake.name)
