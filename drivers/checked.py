@@ -4,7 +4,6 @@ keeps the rule."""
 import os
 import re
 import shlex
-import subprocess
 from xml.etree import ElementTree
 
 import mistakes
@@ -74,7 +73,7 @@ def right_verified(bench, wish):
 
 def ran(bench, *words):
     """Returns what `run` prints, and its exit status."""
-    made = subprocess.run([HERE + "/run", "--irpx", bench.irpx, *words], capture_output=True, text=True, check=False)
+    made = bench.ran(*words)
     return made.stdout + made.stderr, made.returncode
 
 
@@ -128,9 +127,8 @@ def named_tests(bench, driver):
     for name, text in ("one.c", driver), ("named.c", NAMED):
         with open(f"{folder}/{name}", "w", encoding="utf-8") as it:
             it.write(text)
-    words = [HERE + "/run", "--irpx", bench.irpx, "--tap", "--junit", folder + "/out.xml", folder + "/one.c",
-             folder + "/named.c"]
-    made = subprocess.run(words, capture_output=True, text=True, check=False)
+    files = folder + "/one.c", folder + "/named.c"
+    made = bench.ran("--tap", "--junit", folder + "/out.xml", *files)
     wanted = ["\n1..2\n", "\nok 1 - is_there\n", "\nnot ok 2 - a_read_has_its_bytes\n"]
     missing = [it for it in wanted if it not in made.stdout]
     failed = next(number for number, line in enumerate(NAMED.splitlines(), 1) if "IRP_MJ_WRITE" in line)
@@ -141,7 +139,7 @@ def named_tests(bench, driver):
     cases = [(it.get("name"), it.find("failure") is not None) for it in suite.iter("testcase")]
     well = cases == [("is_there", False), ("a_read_has_its_bytes", True)] and suite.get("failures") == "1"
     yield "and JUnit", None if well else str(cases)
-    alone = subprocess.run([*words[:3], "--test", "is_there", *words[-2:]], capture_output=True, text=True, check=False)
+    alone = bench.ran("--test", "is_there", *files)
     yield "one test alone", None if alone.returncode == 0 and "a_read" not in alone.stdout else alone.stdout
 
 
@@ -248,8 +246,7 @@ def mistakes_told(bench, mistake):
     mistake.write(f"{folder}/{mistake.file}")
     flags = [word for key, value in mistake.flags.items()
              for word in ([f"--{key}"] if value is True else [f"--{key}", value])]
-    made = subprocess.run([HERE + "/run", "--irpx", bench.irpx, "--controls", mistakes.CONTROLS[mistake.file], *flags,
-                           f"{folder}/{mistake.file}"], capture_output=True, text=True, check=False)
+    made = bench.ran("--controls", mistakes.CONTROLS[mistake.file], *flags, f"{folder}/{mistake.file}")
     told = next((it for it in made.stderr.splitlines() if "FAULT" in it or "STOPPED" in it), "nothing is told")
     well = re.match(rf"host: (?:FAULT )?{mistake.rule}\b.*{re.escape(mistake.place)}\b", told)
     yield f"mistake: {mistake.name}", None if well else f"it isn't {mistake.rule} {mistake.place}: {told}"

@@ -270,8 +270,7 @@ def merged_parts(bench):
 
 def test_stopped(run, bench):
     """An exploration that is stopped tells which part of it was made. On a fast machine its table is full first."""
-    command = [HERE + "/run", "--irpx", bench.irpx, "--every-order", "--rounds", "9", "--judge", "1", "--minutes", "0.03"]
-    told = subprocess.run([*command, HERE + "/stacks/keyboard.c"], check=False, capture_output=True, text=True)
+    told = bench.ran("--every-order", "--rounds", "9", "--judge", "1", "--minutes", "0.03", HERE + "/stacks/keyboard.c")
     wanted = r"stopped, since (time is up|the table of states is full): (all with \d, )?about \d+ % of those with \d \(estimated\), "
     well = told.returncode == 3 and re.search(wanted, told.stdout)
     yield "an exploration that is stopped tells how far it came", None if well else told.stdout

@@ -5,7 +5,6 @@ WDK's page or rule, the run that tells it first, and how: by which rule, in whic
 
 import os
 import re
-import subprocess
 
 HERE = os.path.dirname(os.path.abspath(__file__))
 FILTER, FUNCTION = HERE + "/others/rdmeter.c", HERE + "/others/sampler"
@@ -43,7 +42,7 @@ MISTAKES = [
 
 def ran(bench, *words):
     """Returns what `run` prints."""
-    made = subprocess.run([HERE + "/run", "--irpx", bench.irpx, *words], capture_output=True, text=True, check=False)
+    made = bench.ran(*words)
     return made.stderr + made.stdout
 
 
