@@ -1,6 +1,7 @@
 """Compiles C files. An object of a file of this folder is kept below out/, by the text that the preprocessor makes of it and
 the words that it is compiled with: where both are as before, it is taken from there."""
 
+import contextlib
 import functools
 import hashlib
 import os
@@ -56,8 +57,9 @@ def forget_old():
     """Takes away the older half of what is kept, where that is too much."""
     kept = [it for it in os.scandir(KEPT) if it.name.endswith(".o")]
     if len(kept) > MOST:
-        for it in sorted(kept, key=lambda it: it.stat().st_mtime)[:len(kept) - MOST // 2]:
-            os.remove(it.path)
+        with contextlib.suppress(FileNotFoundError):  # another process does the same
+            for it in sorted(kept, key=lambda it: it.stat().st_mtime)[:len(kept) - MOST // 2]:
+                os.remove(it.path)
 
 
 def keep(made, kept):

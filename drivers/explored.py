@@ -16,7 +16,7 @@ HERE = os.path.dirname(os.path.abspath(__file__))
 RACES = sorted(it[:-2] for it in os.listdir(HERE + "/races") if it.endswith(".c"))
 # Stacks at one round a loop: how many preemptions are exhausted, and up to how many the reduction is compared with none.
 STACKS = {"children": (2, 2), "keyboard": (1, 1), "late": (2, 2), "policy": (2, 2), "power": (1, 1), "removal": (1, 1),
-          "retry": (2, 2), "serial": (2, 2), "split": (1, 1), "watchdog": (2, 2), "handover": (2, 1), "port": (2, 1),
+          "retry": (2, 2), "serial": (2, 2), "split": (1, 1), "watchdog": (2, 2), "handover": (2, 1), "port": (2, 2),
           "direct": (2, 2), "shared": (1, 1), "settings": (2, 2)}
 
 # An explorer with one thing wrong: a name, a file of the host, what is replaced by what, and where it shows: in a race that
@@ -177,6 +177,13 @@ def test_stack(run, bench, name):
     yield f"stack {name}, every order with {orders.plural(most, 'preemption')}", wrong_right(report) or not_legal(made)
     made.options.preemptions = compared
     yield f"stack {name}, the same classes without the reduction", wrong_classes(made)
+
+
+def compared(run, bench, name):
+    """The reduction against none with two preemptions, which takes minutes."""
+    made = Explored(run, bench, f"compared {name}", Options(bench.cc, f"{HERE}/stacks/{name}.c", 2))
+    made.options.minutes = 60
+    yield f"stack {name}, the same classes with 2 preemptions without the reduction", wrong_classes(made)
 
 
 def test_shapes(run, bench):
