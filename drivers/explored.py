@@ -15,9 +15,12 @@ import planted
 HERE = os.path.dirname(os.path.abspath(__file__))
 RACES = sorted(it[:-2] for it in os.listdir(HERE + "/races") if it.endswith(".c"))
 # Stacks at one round a loop: how many preemptions are exhausted, and up to how many the reduction is compared with none.
-STACKS = {"children": (2, 2), "keyboard": (1, 1), "late": (2, 2), "policy": (2, 2), "power": (1, 1), "removal": (1, 1),
+STACKS = {"children": (2, 2), "keyboard": (2, 1), "late": (2, 2), "policy": (2, 2), "power": (1, 1), "removal": (2, 1),
           "retry": (2, 2), "serial": (2, 2), "split": (1, 1), "watchdog": (2, 2), "handover": (2, 1), "port": (2, 2),
           "direct": (2, 2), "shared": (1, 1), "settings": (2, 2)}
+# Compared with two preemptions where `compared` is chosen. Without the reduction there are at most, reckoned from the first
+# run, so many thousand: 3, 9, 17.
+LONGER = ["keyboard", "handover", "removal"]
 
 # An explorer with one thing wrong: a name, a file of the host, what is replaced by what, and where it shows: in a race that
 # it doesn't find with as few preemptions, in a right driver that isn't clean, or in a stack's number of classes.
@@ -198,6 +201,14 @@ def test_shapes(run, bench):
             options.args = f"{name} {ending}"
             found.append(wrong_right(made.report()) or not_legal(made, 2))
         yield f"shape {name}, every order with 2 preemptions", next(filter(None, found), None)
+
+
+def test_senders(run, bench):
+    """Two senders at once over a device that ends their requests later."""
+    options = Options(bench.cc, f"{HERE}/shapes/test.c", 2)
+    options.source, options.args = [HERE + "/shapes"], "ForwardMarked 1 2 1"
+    made = Explored(run, bench, "orders of two senders", options)
+    yield "two senders, every order with 2 preemptions", wrong_right(made.report()) or not_legal(made)
 
 
 def not_legal(made, most=6):
@@ -419,6 +430,7 @@ def tests(run, bench):
     found += [(f"race {it} right", lambda it=it: test_right(run, bench, it)) for it in RACES]
     found += [(f"orders {it}", lambda it=it: test_stack(run, bench, it)) for it in STACKS]
     found += [("orders of shapes", lambda: test_shapes(run, bench)),
+              ("orders of two senders", lambda: test_senders(run, bench)),
               ("untested under every order", lambda: test_untested(run, bench)),
               ("orders in parts", lambda: test_parts(run, bench)), ("orders stopped", lambda: test_stopped(run, bench)),
               ("orders distinct", lambda: test_distinct(run, bench)),
