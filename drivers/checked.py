@@ -4,6 +4,8 @@ keeps the rule."""
 import os
 import re
 import shlex
+import subprocess
+import sys
 from xml.etree import ElementTree
 
 import mistakes
@@ -238,6 +240,80 @@ def copied(bench):
         again = re.findall(r"FAULT PagedAtDispatch 3 times at the same place \((copied.c:\d+ in Read)\)", said)
         well = first == again == [f"copied.c:{line} in Read" for line in lines]
         yield f"touches through a function of C, by {name}", None if well else said[-900:]
+
+
+STARVED = r"""#include <wdm.h>
+#include "wdm_test.h"
+#include <pthread.h>
+#include <sched.h>
+#include <time.h>
+static PIRP waiting;
+static BOOLEAN for_ever;
+static NTSTATUS Read(PDEVICE_OBJECT DeviceObject, PIRP Irp)
+{
+    IoMarkIrpPending(Irp);
+    waiting = Irp;
+    return STATUS_PENDING;
+}
+void WorkAndComplete(void)
+{
+    struct timespec t;
+    do
+        clock_gettime(CLOCK_THREAD_CPUTIME_ID, &t);
+    while (for_ever || t.tv_nsec < 6000000);
+    waiting->IoStatus.Status = STATUS_SUCCESS;
+    waiting->IoStatus.Information = 0;
+    IoCompleteRequest(waiting, IO_NO_INCREMENT);
+}
+NTSTATUS DriverEntry(PDRIVER_OBJECT DriverObject, PUNICODE_STRING RegistryPath)
+{
+    PDEVICE_OBJECT device;
+    DriverObject->MajorFunction[IRP_MJ_READ] = Read;
+    return IoCreateDevice(DriverObject, 0, NULL, FILE_DEVICE_NULL, 0, FALSE, &device);
+}
+static void *work(void *context)
+{
+    const struct sched_param none = { 0 };
+    sched_setscheduler(0, SCHED_IDLE, &none);
+    WorkAndComplete();
+    return context;
+}
+int main(int argc, char **argv)
+{
+    PDEVICE_OBJECT top = WdmLoadDriver("starved", DriverEntry)->DeviceObject;
+    IO_STATUS_BLOCK iosb;
+    KEVENT done;
+    cpu_set_t one;
+    pthread_t t;
+    CPU_ZERO(&one);
+    CPU_SET(0, &one);
+    sched_setaffinity(0, sizeof one, &one);
+    for_ever = argc > 1 && argv[1];
+    KeInitializeEvent(&done, NotificationEvent, FALSE);
+    IoCallDriver(top, WdmBuildIrp(top, IRP_MJ_READ, 0, 4, &iosb, &done));
+    pthread_create(&t, NULL, work, NULL);
+    KeWaitForSingleObject(&done, Executive, KernelMode, FALSE, NULL);
+    pthread_join(t, NULL);
+    return WdmFinish();
+}
+"""
+
+
+def starved(bench):
+    """A thread that gets hardly any of the processor, since another program has it, isn't stuck; one that runs for ever is."""
+    folder = bench.folder("starved")
+    with open(folder + "/starved.c", "w", encoding="utf-8") as it:
+        it.write(STARVED)
+    program = bench.build(folder, [folder + "/starved.c"])
+    words = [sys.executable, "-c", "import os\nos.sched_setaffinity(0, {0})\nwhile True: pass"]
+    with subprocess.Popen(words) as busy:
+        try:
+            said = bench.run(folder, program, patience=1).said
+        finally:
+            busy.kill()
+    yield "a thread that gets no processor isn't stuck", said[-600:] if "FAULT Hang" in said else None
+    said = bench.run(folder, program, args="forever", patience=1).said
+    yield "a thread that runs for ever is", None if "FAULT Hang" in said else said[-600:]
 
 
 def mistakes_told(bench, mistake):
