@@ -305,9 +305,10 @@ def starved(bench):
     with open(folder + "/starved.c", "w", encoding="utf-8") as it:
         it.write(STARVED)
     program = bench.build(folder, [folder + "/starved.c"])
-    words = [sys.executable, "-c", "import os\nos.sched_setaffinity(0, {0})\nwhile True: pass"]
-    with subprocess.Popen(words) as busy:
+    words = [sys.executable, "-c", "import os\nos.sched_setaffinity(0, {0})\nprint(flush=True)\nwhile True: pass"]
+    with subprocess.Popen(words, stdout=subprocess.PIPE) as busy:
         try:
+            busy.stdout.readline()
             said = bench.run(folder, program, patience=1).said
         finally:
             busy.kill()
