@@ -6,10 +6,9 @@ driver is found by the driver's name: FILE_DriverEntry, in a table for WdmLoadBy
 
 import os
 import re
-import subprocess
-import sys
 
-import missing
+import compiling
+from compiling import Stop, call
 
 HERE = os.path.dirname(os.path.abspath(__file__))
 DRIVER_FLAGS = ["-std=gnu11", "-fcommon", "-Wall", "-Wextra", "-Wno-multichar", "-Wno-unknown-pragmas",
@@ -20,20 +19,6 @@ DRIVER_FLAGS = ["-std=gnu11", "-fcommon", "-Wall", "-Wextra", "-Wno-multichar", 
 OWN_TESTS = [["exercise.c", "requests.c"], ["overlaps.c"]]
 NAMED_TESTS = "named_tests.c"  # the host's `main` for tests that a file has by WDM_TEST
 OWN_FILES = [NAMED_TESTS, *(it for files in OWN_TESTS for it in files)]
-
-
-class Stop(Exception):
-    """What keeps the run from being made."""
-
-
-def call(words, why):
-    made = subprocess.run(words, capture_output=True, text=True, errors="replace", check=False)
-    if made.returncode:
-        sys.stderr.write(missing.listed(made.stderr))
-    sys.stderr.write(made.stderr)
-    if made.returncode:
-        raise Stop(f"{why}: {words[0]} ended with status {made.returncode}")
-    return made.stdout
 
 
 def has(source, function):
@@ -136,32 +121,34 @@ def objects_of_drivers(named, folder):
 
 
 def write_table(path, drivers, has_alias):
+    """Writes a table of the drivers, with the types as C has them: it names no header, which takes most of its time."""
     with open(path, "w", encoding="utf-8") as it:
-        it.write('#include "wdm_test.h"\n')
-        it.writelines(f"DRIVER_INITIALIZE {name}_DriverEntry;\n" for name, _ in drivers)
-        it.write("const struct { const char *name; PDRIVER_INITIALIZE entry; } wdm_drivers[] = {\n")
+        it.writelines(f"int {name}_DriverEntry(void *driver, void *path);\n" for name, _ in drivers)
+        it.write("const struct { const char *name; int (*entry)(void *, void *); } wdm_drivers[] = {\n")
         it.writelines(f'    {{ "{name}", {name}_DriverEntry }},\n' for name, _ in drivers)
-        it.write("    { NULL, NULL }\n")
+        it.write("    { 0, 0 }\n")
         it.write(f"}};\nconst int wdm_n_drivers = {len(drivers)};\n")
         if has_alias:
-            it.write("NTSTATUS DriverEntry(PDRIVER_OBJECT DriverObject, PUNICODE_STRING RegistryPath)\n{\n"
-                     f"    return {drivers[0][0]}_DriverEntry(DriverObject, RegistryPath);\n}}\n")
+            it.write("int DriverEntry(void *driver, void *path)\n{\n"
+                     f"    return {drivers[0][0]}_DriverEntry(driver, path);\n}}\n")
 
 
-def build(compiler, flags, named, library, folder, link_flags=(), libraries=(), own_test=OWN_TESTS[0]):
-    """Returns the program. The objects that it is linked of lie in the folder, the drivers' parts below it."""
+def build(compiler, flags, named, library, folder, link_flags=(), libraries=(), own_test=OWN_TESTS[0],
+          counting=()):
+    """Returns the program. The objects that it is linked of lie in the folder, the drivers' parts below it. `counting` are
+    flags for drivers alone."""
     drivers, others, kind = find_sources(list(libraries) + list(named))
     names = [name for name, _ in drivers]
     if len(set(names)) != len(names):
         raise Stop("two drivers have the same name: " + ", ".join(sorted({it for it in names if names.count(it) > 1})))
     exporting = {stem(it) for it in libraries}
     os.makedirs(folder + "/parts", exist_ok=True)
-    compiled = lambda source, made: call([compiler, *flags, "-c", source, "-o", made], f"{source} doesn't compile")
+    compiled = lambda source, made, *more: compiling.compiled([compiler, *flags, *more], source, made)
     objects, units, apart = [], [], []
     for number, (name, files) in enumerate(drivers):
         parts = [f"{folder}/parts/{number}_{at}_{stem(source)}.o" for at, source in enumerate(files)]
         for source, part in zip(files, parts):
-            compiled(source, part)
+            compiled(source, part, *counting)
         made = f"{folder}/{number}_{name}.o"
         call(["ld", "-r", "-d", "-o", made, *parts], f"the files of {name} don't link")
         objects.append(made)

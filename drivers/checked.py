@@ -5,6 +5,7 @@ import os
 import re
 import shlex
 import subprocess
+import sys
 from xml.etree import ElementTree
 
 import mistakes
@@ -74,7 +75,7 @@ def right_verified(bench, wish):
 
 def ran(bench, *words):
     """Returns what `run` prints, and its exit status."""
-    made = subprocess.run([HERE + "/run", "--irpx", bench.irpx, *words], capture_output=True, text=True, check=False)
+    made = bench.ran(*words)
     return made.stdout + made.stderr, made.returncode
 
 
@@ -128,9 +129,8 @@ def named_tests(bench, driver):
     for name, text in ("one.c", driver), ("named.c", NAMED):
         with open(f"{folder}/{name}", "w", encoding="utf-8") as it:
             it.write(text)
-    words = [HERE + "/run", "--irpx", bench.irpx, "--tap", "--junit", folder + "/out.xml", folder + "/one.c",
-             folder + "/named.c"]
-    made = subprocess.run(words, capture_output=True, text=True, check=False)
+    files = folder + "/one.c", folder + "/named.c"
+    made = bench.ran("--tap", "--junit", folder + "/out.xml", *files)
     wanted = ["\n1..2\n", "\nok 1 - is_there\n", "\nnot ok 2 - a_read_has_its_bytes\n"]
     missing = [it for it in wanted if it not in made.stdout]
     failed = next(number for number, line in enumerate(NAMED.splitlines(), 1) if "IRP_MJ_WRITE" in line)
@@ -141,7 +141,7 @@ def named_tests(bench, driver):
     cases = [(it.get("name"), it.find("failure") is not None) for it in suite.iter("testcase")]
     well = cases == [("is_there", False), ("a_read_has_its_bytes", True)] and suite.get("failures") == "1"
     yield "and JUnit", None if well else str(cases)
-    alone = subprocess.run([*words[:3], "--test", "is_there", *words[-2:]], capture_output=True, text=True, check=False)
+    alone = bench.ran("--test", "is_there", *files)
     yield "one test alone", None if alone.returncode == 0 and "a_read" not in alone.stdout else alone.stdout
 
 
@@ -192,14 +192,138 @@ def notes(bench):
     yield "what packets leave behind", None if told else said[-500:]
 
 
+COPIED = """#include <wdm.h>
+#include "wdm_test.h"
+static NTSTATUS Read(PDEVICE_OBJECT DeviceObject, PIRP Irp)
+{
+    ULONG length = IoGetCurrentIrpStackLocation(Irp)->Parameters.Read.Length;
+    PUCHAR block = ExAllocatePoolWithTag(PagedPool, 64, 'ypoC');
+    KIRQL irql;
+    KeRaiseIrql(DISPATCH_LEVEL, &irql);
+    RtlCopyMemory(block, "a copy of so many bytes", length);
+    KeLowerIrql(irql);
+    KeRaiseIrql(DISPATCH_LEVEL, &irql);
+    RtlCopyMemory(block, "another one, as long as it", length);
+    KeLowerIrql(irql);
+    ExFreePoolWithTag(block, 'ypoC');
+    Irp->IoStatus.Status = STATUS_SUCCESS;
+    Irp->IoStatus.Information = 0;
+    IoCompleteRequest(Irp, IO_NO_INCREMENT);
+    return STATUS_SUCCESS;
+}
+NTSTATUS DriverEntry(PDRIVER_OBJECT DriverObject, PUNICODE_STRING RegistryPath)
+{
+    PDEVICE_OBJECT device;
+    DriverObject->MajorFunction[IRP_MJ_READ] = Read;
+    return IoCreateDevice(DriverObject, 0, NULL, FILE_DEVICE_NULL, 0, FALSE, &device);
+}
+int main(void)
+{
+    PDRIVER_OBJECT driver = WdmLoadDriver("copied", DriverEntry);
+    for (int i = 0; i < 3; i++)
+        WdmSend(driver->DeviceObject, IRP_MJ_READ, 0, 16);
+    return WdmFinish();
+}
+"""
+
+
+def copied(bench):
+    """What is touched through a function of C is told by the driver's line, each line once, and how often it came. By a
+    schedule these functions stand in the program."""
+    path = bench.folder("copied") + "/copied.c"
+    with open(path, "w", encoding="utf-8") as it:
+        it.write(COPIED)
+    lines = [n for n, text in enumerate(COPIED.splitlines(), 1) if "RtlCopyMemory" in text]
+    for name, words in ("real threads", []), ("a schedule", ["--shake", "1"]):
+        said, _ = ran(bench, *words, path)
+        first = re.findall(r"FAULT PagedAtDispatch \(0xD1\): (copied.c:\d+ in Read)", said)
+        again = re.findall(r"FAULT PagedAtDispatch 3 times at the same place \((copied.c:\d+ in Read)\)", said)
+        well = first == again == [f"copied.c:{line} in Read" for line in lines]
+        yield f"touches through a function of C, by {name}", None if well else said[-900:]
+
+
+STARVED = r"""#include <wdm.h>
+#include "wdm_test.h"
+#include <pthread.h>
+#include <sched.h>
+#include <time.h>
+static PIRP waiting;
+static BOOLEAN for_ever;
+static NTSTATUS Read(PDEVICE_OBJECT DeviceObject, PIRP Irp)
+{
+    IoMarkIrpPending(Irp);
+    waiting = Irp;
+    return STATUS_PENDING;
+}
+void WorkAndComplete(void)
+{
+    struct timespec t;
+    do
+        clock_gettime(CLOCK_THREAD_CPUTIME_ID, &t);
+    while (for_ever || t.tv_nsec < 6000000);
+    waiting->IoStatus.Status = STATUS_SUCCESS;
+    waiting->IoStatus.Information = 0;
+    IoCompleteRequest(waiting, IO_NO_INCREMENT);
+}
+NTSTATUS DriverEntry(PDRIVER_OBJECT DriverObject, PUNICODE_STRING RegistryPath)
+{
+    PDEVICE_OBJECT device;
+    DriverObject->MajorFunction[IRP_MJ_READ] = Read;
+    return IoCreateDevice(DriverObject, 0, NULL, FILE_DEVICE_NULL, 0, FALSE, &device);
+}
+static void *work(void *context)
+{
+    const struct sched_param none = { 0 };
+    sched_setscheduler(0, SCHED_IDLE, &none);
+    WorkAndComplete();
+    return context;
+}
+int main(int argc, char **argv)
+{
+    PDEVICE_OBJECT top = WdmLoadDriver("starved", DriverEntry)->DeviceObject;
+    IO_STATUS_BLOCK iosb;
+    KEVENT done;
+    cpu_set_t one;
+    pthread_t t;
+    CPU_ZERO(&one);
+    CPU_SET(0, &one);
+    sched_setaffinity(0, sizeof one, &one);
+    for_ever = argc > 1 && argv[1];
+    KeInitializeEvent(&done, NotificationEvent, FALSE);
+    IoCallDriver(top, WdmBuildIrp(top, IRP_MJ_READ, 0, 4, &iosb, &done));
+    pthread_create(&t, NULL, work, NULL);
+    KeWaitForSingleObject(&done, Executive, KernelMode, FALSE, NULL);
+    pthread_join(t, NULL);
+    return WdmFinish();
+}
+"""
+
+
+def starved(bench):
+    """A thread that gets hardly any of the processor, since another program has it, isn't stuck; one that runs for ever is."""
+    folder = bench.folder("starved")
+    with open(folder + "/starved.c", "w", encoding="utf-8") as it:
+        it.write(STARVED)
+    program = bench.build(folder, [folder + "/starved.c"])
+    words = [sys.executable, "-c", "import os\nos.sched_setaffinity(0, {0})\nprint(flush=True)\nwhile True: pass"]
+    with subprocess.Popen(words, stdout=subprocess.PIPE) as busy:
+        try:
+            busy.stdout.readline()
+            said = bench.run(folder, program, patience=1).said
+        finally:
+            busy.kill()
+    yield "a thread that gets no processor isn't stuck", said[-600:] if "FAULT Hang" in said else None
+    said = bench.run(folder, program, args="forever", patience=1).said
+    yield "a thread that runs for ever is", None if "FAULT Hang" in said else said[-600:]
+
+
 def mistakes_told(bench, mistake):
     """The mistake is told first by the run that mistakes.py names, as the rule and where it names."""
     folder = bench.folder("mistake " + mistake.name)
     mistake.write(f"{folder}/{mistake.file}")
     flags = [word for key, value in mistake.flags.items()
              for word in ([f"--{key}"] if value is True else [f"--{key}", value])]
-    made = subprocess.run([HERE + "/run", "--irpx", bench.irpx, "--controls", mistakes.CONTROLS[mistake.file], *flags,
-                           f"{folder}/{mistake.file}"], capture_output=True, text=True, check=False)
+    made = bench.ran("--controls", mistakes.CONTROLS[mistake.file], *flags, f"{folder}/{mistake.file}")
     told = next((it for it in made.stderr.splitlines() if "FAULT" in it or "STOPPED" in it), "nothing is told")
     well = re.match(rf"host: (?:FAULT )?{mistake.rule}\b.*{re.escape(mistake.place)}\b", told)
     yield f"mistake: {mistake.name}", None if well else f"it isn't {mistake.rule} {mistake.place}: {told}"

@@ -15,7 +15,9 @@ one lowest. In a FOLDER all files count, in the order of their names; where one 
 are one driver. `run` links each driver by itself, so its globals don't meet those of another one.
 
 A file with `main`, or with tests by WDM_TEST(NAME), is the test (include/wdm_test.h has what it calls). Where there is
-none, the host's own test runs: it starts the stack over bottom devices, sends and cancels requests, and removes it."""
+none, the host's own test runs: it starts the stack over bottom devices, sends and cancels requests, and removes it.
+
+What is built goes below drivers/out, or the folder that WDM_OUT names. A run of the same name waits for another one there."""
 
 EPILOG = """examples:
   run mydriver.c                         one driver, tested by the host
@@ -120,7 +122,7 @@ def add_output(parser):
     group = parser.add_argument_group("what comes out")
     group.add_argument("--page", metavar="FILE",
                        help="write a page that shows the history, by irp_view (IRP_VIEW, else bin/irp_view)")
-    group.add_argument("--transcript", metavar="FILE", help="where the transcript goes (else below drivers/out)")
+    group.add_argument("--transcript", metavar="FILE", help="where the transcript goes (else beside the program)")
     group.add_argument("--coverage", action="store_true", help="tell which lines of the drivers never ran (gcc)")
     group.add_argument("--junit", metavar="FILE", help="write what each run or test gave, for a test server")
     group.add_argument("--tap", action="store_true", help="and print it as lines of the Test Anything Protocol")

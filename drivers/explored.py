@@ -15,9 +15,12 @@ import planted
 HERE = os.path.dirname(os.path.abspath(__file__))
 RACES = sorted(it[:-2] for it in os.listdir(HERE + "/races") if it.endswith(".c"))
 # Stacks at one round a loop: how many preemptions are exhausted, and up to how many the reduction is compared with none.
-STACKS = {"children": (2, 2), "keyboard": (1, 1), "late": (2, 2), "policy": (2, 2), "power": (1, 1), "removal": (1, 1),
-          "retry": (2, 2), "serial": (2, 2), "split": (1, 1), "watchdog": (2, 2), "handover": (2, 1), "port": (2, 1),
+STACKS = {"children": (2, 2), "keyboard": (2, 1), "late": (2, 2), "policy": (2, 2), "power": (1, 1), "removal": (2, 1),
+          "retry": (2, 2), "serial": (2, 2), "split": (1, 1), "watchdog": (2, 2), "handover": (2, 1), "port": (2, 2),
           "direct": (2, 2), "shared": (1, 1), "settings": (2, 2)}
+# Compared with two preemptions where `compared` is chosen. Without the reduction there are at most, reckoned from the first
+# run, so many thousand: 3, 9, 17.
+LONGER = ["keyboard", "handover", "removal"]
 
 # An explorer with one thing wrong: a name, a file of the host, what is replaced by what, and where it shows: in a race that
 # it doesn't find with as few preemptions, in a right driver that isn't clean, or in a stack's number of classes.
@@ -76,7 +79,7 @@ class Options:
         self.every_order, self.schedule, self.real, self.sanitize = True, None, False, None
         self.seeds = self.threads = self.controls = self.transcript = self.patience = self.part = self.shake = None
         self.page_ends = self.routines_high = self.refuse = None
-        self.args, self.timeout, self.settings, self.minutes, self.processes = "", 100, {}, 2, 1
+        self.args, self.timeout, self.settings, self.minutes, self.processes = "", 100, {}, 5, 1
         with open(source, encoding="utf-8") as it:
             self.one_processor = ". On one processor:" in it.readline()
 
@@ -179,6 +182,13 @@ def test_stack(run, bench, name):
     yield f"stack {name}, the same classes without the reduction", wrong_classes(made)
 
 
+def compared(run, bench, name):
+    """The reduction against none with two preemptions, which takes minutes."""
+    made = Explored(run, bench, f"compared {name}", Options(bench.cc, f"{HERE}/stacks/{name}.c", 2))
+    made.options.minutes = 60
+    yield f"stack {name}, the same classes with 2 preemptions without the reduction", wrong_classes(made)
+
+
 def test_shapes(run, bench):
     """One request of each right shape, in every order: over a device that ends it later, and over all its endings where the
     shape itself hands it on. Without either there is one order."""
@@ -191,6 +201,14 @@ def test_shapes(run, bench):
             options.args = f"{name} {ending}"
             found.append(wrong_right(made.report()) or not_legal(made, 2))
         yield f"shape {name}, every order with 2 preemptions", next(filter(None, found), None)
+
+
+def test_senders(run, bench):
+    """Two senders at once over a device that ends their requests later."""
+    options = Options(bench.cc, f"{HERE}/shapes/test.c", 2)
+    options.source, options.args = [HERE + "/shapes"], "ForwardMarked 1 2 1"
+    made = Explored(run, bench, "orders of two senders", options)
+    yield "two senders, every order with 2 preemptions", wrong_right(made.report()) or not_legal(made)
 
 
 def not_legal(made, most=6):
@@ -270,8 +288,7 @@ def merged_parts(bench):
 
 def test_stopped(run, bench):
     """An exploration that is stopped tells which part of it was made. On a fast machine its table is full first."""
-    command = [HERE + "/run", "--irpx", bench.irpx, "--every-order", "--rounds", "9", "--judge", "1", "--minutes", "0.03"]
-    told = subprocess.run([*command, HERE + "/stacks/keyboard.c"], check=False, capture_output=True, text=True)
+    told = bench.ran("--every-order", "--rounds", "9", "--judge", "1", "--minutes", "0.03", HERE + "/stacks/keyboard.c")
     wanted = r"stopped, since (time is up|the table of states is full): (all with \d, )?about \d+ % of those with \d \(estimated\), "
     well = told.returncode == 3 and re.search(wanted, told.stdout)
     yield "an exploration that is stopped tells how far it came", None if well else told.stdout
@@ -413,6 +430,7 @@ def tests(run, bench):
     found += [(f"race {it} right", lambda it=it: test_right(run, bench, it)) for it in RACES]
     found += [(f"orders {it}", lambda it=it: test_stack(run, bench, it)) for it in STACKS]
     found += [("orders of shapes", lambda: test_shapes(run, bench)),
+              ("orders of two senders", lambda: test_senders(run, bench)),
               ("untested under every order", lambda: test_untested(run, bench)),
               ("orders in parts", lambda: test_parts(run, bench)), ("orders stopped", lambda: test_stopped(run, bench)),
               ("orders distinct", lambda: test_distinct(run, bench)),

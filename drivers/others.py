@@ -1,49 +1,51 @@
 """Two drivers by hands that know WDM and had never seen this host (others/), with twenty mistakes that they have met in code
 reviews and crash dumps. They wrote down what Windows would say of each, and where, before any run. A row has the mistake, the
-WDK's page or rule, the run that tells it first, and how: by which rule, in which function. Who builds with
-`--cflag=-DMISTAKE_N` gets mistake N. The tests try those that a plain run tells."""
+WDK's page or rule, the run that tells it first, and how: by which rule, in which function; and the seconds that a processor
+took for the run, compilers and all (of `--verify`, which waits more than it works, for all of its five minutes at most). Who
+builds with `--cflag=-DMISTAKE_N` gets mistake N. The tests try those that a plain run tells."""
 
 import os
 import re
-import subprocess
 
 HERE = os.path.dirname(os.path.abspath(__file__))
 FILTER, FUNCTION = HERE + "/others/rdmeter.c", HERE + "/others/sampler"
 PLAIN, SEEDS, VERIFY, EVERY_ORDER = "plain", "--seeds 1..5 --threads 4", "--verify", "--every-order"
 MISTAKES = [
     (1, FILTER, "a routine doesn't pass PendingReturned on", "Implementing an IoCompletion Routine", PLAIN, "Mark",
-     "MeterReadDone"),
-    (2, FILTER, "pool isn't looked at", "Low Resources Simulation", VERIFY, "STOPPED", "MeterRead"),
-    (3, FILTER, "a skip, and then a completion routine", "IoSkipCurrentIrpStackLocation", PLAIN, "AfterSkip", "MeterRead"),
-    (4, FILTER, "IoReleaseRemoveLock in a removal", "Using Remove Locks", PLAIN, "NotDrained", "MeterPnp"),
-    (5, FILTER, "IoStatus read after IoCallDriver", "IoCallDriver", PLAIN, "Touched", "MeterRead"),
-    (6, FILTER, "a routine isn't called for errors", "IoSetCompletionRoutine", PLAIN, "NotDrained", "MeterPnp"),
-    (7, FILTER, "a start is completed twice", "bug check 0x44", PLAIN, "CompletedTwice", "MeterPnp"),
-    (8, FILTER, "a fast mutex in a completion routine", "ExAcquireFastMutex", SEEDS, "IrqlTooHigh", "MeterReadDone"),
-    (9, FILTER, "a power request isn't passed down", "Passing Power IRPs", PLAIN, "NotPassedDown", "MeterPower"),
-    (10, FILTER, "a context is read after ExFreePool", "Special Pool", SEEDS, "UsedAfterFree", "MeterReadDone"),
-    (11, FUNCTION, "Irp->Cancel isn't looked at", "Synchronizing IRP Cancellation", PLAIN, "AlreadyCancelled", "SamplerRead"),
-    (12, FUNCTION, "a cancel routine that has begun isn't minded", "bug check 0x44", SEEDS, "CompletedTwice",
-     "SamplerComplete"),
+     "MeterReadDone", 1.0),
+    (2, FILTER, "pool isn't looked at", "Low Resources Simulation", VERIFY, "STOPPED", "MeterRead", 6.9),
+    (3, FILTER, "a skip, and then a completion routine", "IoSkipCurrentIrpStackLocation", PLAIN, "AfterSkip", "MeterRead",
+     1.1),
+    (4, FILTER, "IoReleaseRemoveLock in a removal", "Using Remove Locks", PLAIN, "NotDrained", "MeterPnp", 1.1),
+    (5, FILTER, "IoStatus read after IoCallDriver", "IoCallDriver", PLAIN, "Touched", "MeterRead", 1.1),
+    (6, FILTER, "a routine isn't called for errors", "IoSetCompletionRoutine", PLAIN, "NotDrained", "MeterPnp", 1.2),
+    (7, FILTER, "a start is completed twice", "bug check 0x44", PLAIN, "CompletedTwice", "MeterPnp", 1.1),
+    (8, FILTER, "a fast mutex in a completion routine", "ExAcquireFastMutex", SEEDS, "IrqlTooHigh", "MeterReadDone", 1.9),
+    (9, FILTER, "a power request isn't passed down", "Passing Power IRPs", PLAIN, "NotPassedDown", "MeterPower", 1.3),
+    (10, FILTER, "a context is read after ExFreePool", "Special Pool", SEEDS, "UsedAfterFree", "MeterReadDone", 1.8),
+    (11, FUNCTION, "Irp->Cancel isn't looked at", "Synchronizing IRP Cancellation", PLAIN, "AlreadyCancelled",
+     "SamplerRead", 1.5),
+    (12, FUNCTION, "a cancel routine that has begun isn't minded", "bug check 0x44", SEEDS, "ListCorrupt", "SamplerCancel", 2.4),
     (13, FUNCTION, "OutputBufferLength isn't looked at", "Failure to Check the Size of Buffers", PLAIN, "STOPPED",
-     "SamplerControl"),
-    (14, FUNCTION, "STATUS_PENDING without the mark", "IoMarkIrpPending", PLAIN, "Returned", "SamplerRead"),
-    (15, FUNCTION, "a completion under a spin lock", "IoCompleteRequest", PLAIN, "UnderSpinLock", "SamplerTick"),
+     "SamplerControl", 1.6),
+    (14, FUNCTION, "STATUS_PENDING without the mark", "IoMarkIrpPending", PLAIN, "Returned", "SamplerRead", 1.6),
+    (15, FUNCTION, "a completion under a spin lock", "IoCompleteRequest", PLAIN, "UnderSpinLock", "SamplerTick", 1.6),
     (16, FUNCTION, "no KeFlushQueuedDpcs before the device goes", "KeFlushQueuedDpcs", EVERY_ORDER, "UsedInFreedMemory",
-     "SamplerTick"),
+     "SamplerTick", 1.7),
     (17, FUNCTION, "the cancel lock is released with another level", "IoReleaseCancelSpinLock", PLAIN, "IrqlReturn",
-     "SamplerCancel"),
+     "SamplerCancel", 1.6),
     (18, FUNCTION, "a removal doesn't complete what is queued", "Handling an IRP_MN_REMOVE_DEVICE Request", PLAIN,
-     "NotDrained", "SamplerPnp"),
+     "NotDrained", "SamplerPnp", 1.8),
     (19, FUNCTION, "paged pool is touched in a deferred routine", "Force IRQL Checking", PLAIN, "PagedAtDispatch",
-     "SamplerArm"),
-    (20, FUNCTION, "PoRequestPowerIrp's failure isn't looked at", "bug check 0x9F", VERIFY, "Hang", "SamplerSystemPowerDone"),
+     "SamplerArm", 1.6),
+    (20, FUNCTION, "PoRequestPowerIrp's failure isn't looked at", "bug check 0x9F", VERIFY, "Hang",
+     "SamplerSystemPowerDone", 6.3),
 ]
 
 
 def ran(bench, *words):
     """Returns what `run` prints."""
-    made = subprocess.run([HERE + "/run", "--irpx", bench.irpx, *words], capture_output=True, text=True, check=False)
+    made = bench.ran(*words)
     return made.stderr + made.stdout
 
 
@@ -66,6 +68,6 @@ def right(bench, *words):
 def tests(bench):
     """Returns the tests: of each a name, and a call that gives names and complaints."""
     found = [(f"others {n}", lambda n=n, its=its, rule=rule, where=where: told(bench, n, its, rule, where))
-             for n, its, _, _, run, rule, where in MISTAKES if run == PLAIN]
+             for n, its, _, _, run, rule, where, _ in MISTAKES if run == PLAIN]
     return [*found, *((f"others {len(its)}, right", lambda its=its: right(bench, *its))
                       for its in ((FILTER,), (FUNCTION, FILTER), ("--routines-high", FUNCTION)))]

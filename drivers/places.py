@@ -42,6 +42,8 @@ def with_lines(said, program):
         if not it["lead"].startswith(", called"):
             theirs = theirs or found
         calls = [f"{line} in {function}" for line, function in theirs[:MOST_CALLS]]
+        if known and not calls and not it["lead"]:
+            calls = [re.sub(r"^\+\S+ (in [^,]+).*", r"\1", it["chain"])]
         return (it["own"] or "") + (it["lead"] + ", called at ".join(calls) if calls else "" if known else it[0])
 
     chain = rf"(?P<chain>{ADDRESS}(?:, called at {ADDRESS})*)"

@@ -6,6 +6,8 @@ import json
 import os
 import re
 
+import places
+
 HERE = os.path.dirname(os.path.abspath(__file__))
 MOST_LINES = 4  # that one call in these sources has
 WRAPPED = r"Wdm[A-Z]\w+"  # what wdm_test.h has makes calls for a test
@@ -78,13 +80,16 @@ def tests(bench):
     placed = reader()
     for name, args, seed in (("samples", "", None), ("samples", "60", 3), ("shapes", "all all 2 140", 5)):
         folder = bench.folder(f"places of {name}")
-        run = bench.run(folder, bench.build(folder, [f"{HERE}/{name}"]), args=args, seed=seed)
+        program = bench.build(folder, [f"{HERE}/{name}"])
+        run = bench.run(folder, program, args=args, seed=seed)
         wrong = wrong_places(sources_in(f"{HERE}/{name}"), run.transcript + ".places", run.transcript)
         yield f"places of {name} {args}", wrong
         if args:
             continue
-        places = placed.Places(run.transcript + ".places", run.transcript)
-        yield "the devices' drivers", NO_COMPLAINT if places.devices == ["bus", "toaster", "filter"] else places.devices
+        found = placed.Places(run.transcript + ".places", run.transcript)
+        yield "the devices' drivers", NO_COMPLAINT if found.devices == ["bus", "toaster", "filter"] else found.devices
+        said = places.with_lines("9 times (+0x1 in nowhere, called at +0x2 in none)", program)
+        yield "a place without a line", NO_COMPLAINT if said == "9 times (in nowhere)" else said
         with open(run.transcript, "a", encoding="utf-8") as it:
             it.write("\n")
         try:

@@ -254,20 +254,23 @@ FAULTS = [
 ]
 
 # Hosts made wrong: edits of the host's files. Each is judged illegal on one of the runs, but for the last.
-ORDER = [("host.h", "    size_t number;\n", "    size_t number, first, last;\n"),
-         ("recording.c", "    return e;\n}\n\n/* The entry is settled", "    e->first = stamp++;\n    return e;\n}\n\n"
-          "/* The entry is settled"),
+# When an entry was begun, and when its call returned, stand behind it.
+ORDER = [("recording.c", "    Entry *e = calloc(1, sizeof *e);\n", "    Entry *e = calloc(1, sizeof *e + 2 * sizeof stamp);\n"),
+         ("recording.c", "    return e;\n}\n\n/* The entry is settled",
+          "    ((size_t *)(e + 1))[0] = stamp++;\n    return e;\n}\n\n/* The entry is settled"),
          ("recording.c", "/* A new entry,", "size_t stamp;\n\n/* A new entry,"),
-         ("recording.c", "    e->number = n_history;\n", "    e->number = n_history;\n    e->last = stamp++;\n"),
+         ("recording.c", "    e->number = n_history;\n",
+          "    e->number = n_history;\n    ((size_t *)(e + 1))[1] = stamp++;\n"),
          ("sending.c", "    e->reply = STATUS;\n",
-          "    extern size_t stamp;\n    e->last = stamp++;\n    e->reply = STATUS;\n"),
+          "    extern size_t stamp;\n    ((size_t *)(e + 1))[1] = stamp++;\n    e->reply = STATUS;\n"),
          ("writing.c", "    char *text = NULL;\n    size_t length = 0, n = 0;\n",
           "    char *text = NULL;\n    size_t length = 0, n = 0;\n"
           "    qsort(history, n_history, sizeof *history, by_order);\n"
           "    for (size_t i = 0; i < n_history; i++)\n        history[i]->number = i;\n"),
          ("writing.c", "/* Writes the history up to", "static int by_order(const void *a, const void *b)\n{\n"
           "    const Entry *x = *(Entry *const *)a, *y = *(Entry *const *)b;\n"
-          "    return x->KEY < y->KEY ? -1 : x->KEY > y->KEY;\n}\n\n/* Writes the history up to")]
+          "    const size_t m = ((const size_t *)(x + 1))[KEY], n = ((const size_t *)(y + 1))[KEY];\n"
+          "    return m < n ? -1 : m > n;\n}\n\n/* Writes the history up to")]
 
 
 def by(key):
@@ -275,8 +278,8 @@ def by(key):
 
 
 WRONG_HOSTS = [
-    ("numbers given at the start of a call", by("first")),
-    ("numbers given at the return of a call", by("last")),
+    ("numbers given at the start of a call", by("0")),
+    ("numbers given at the return of a call", by("1")),
     ("a cancel recorded a moment late",
      [("cancelling.c", "        release_cancel_lock(irql);\n        answered(e, CANCELLED, 0);\n",
        "        release_cancel_lock(irql);\n        let_driver_run();\n        KeStallExecutionProcessor(300);\n"

@@ -2,7 +2,6 @@
 
 import os
 import re
-import subprocess
 
 import planted
 
@@ -13,7 +12,7 @@ NO_COMPLAINT = None
 
 def run(bench, *words):
     """Returns what `run` prints, and its exit status."""
-    made = subprocess.run([HERE + "/run", "--irpx", bench.irpx, *words], capture_output=True, text=True, check=False)
+    made = bench.ran(*words)
     return made.stdout + made.stderr, made.returncode
 
 

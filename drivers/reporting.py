@@ -1,6 +1,6 @@
 """What machines read of runs: a file of JUnit's, and lines of the Test Anything Protocol."""
 
-from xml.sax import saxutils
+import html
 
 
 class Case:
@@ -11,8 +11,8 @@ class Case:
 
 
 def text_of(words):
-    """Returns words as XML has them: characters that it can't have are left out."""
-    return saxutils.escape("".join(it for it in words if it >= " " or it in "\t\n"))
+    """Returns words as XML has them, within quotes too: characters that it can't have are left out."""
+    return html.escape("".join(it for it in words if it >= " " or it in "\t\n"))
 
 
 def write_junit(path, suite, cases):
@@ -20,13 +20,13 @@ def write_junit(path, suite, cases):
     bad = sum(bool(it.wrong) for it in cases)
     with open(path, "w", encoding="utf-8") as out:
         out.write('<?xml version="1.0" encoding="UTF-8"?>\n')
-        out.write(f'<testsuite name={saxutils.quoteattr(suite)} tests="{len(cases)}" failures="{bad}" '
+        out.write(f'<testsuite name="{text_of(suite)}" tests="{len(cases)}" failures="{bad}" '
                   f'time="{sum(it.seconds for it in cases):.3f}">\n')
         for it in cases:
-            out.write(f'  <testcase classname={saxutils.quoteattr(suite)} name={saxutils.quoteattr(it.name)} '
+            out.write(f'  <testcase classname="{text_of(suite)}" name="{text_of(it.name)}" '
                       f'time="{it.seconds:.3f}"')
             if it.wrong:
-                out.write(f'>\n    <failure message={saxutils.quoteattr(text_of(it.wrong[0]))}>'
+                out.write(f'>\n    <failure message="{text_of(it.wrong[0])}">'
                           f'{text_of(chr(10).join(it.wrong))}</failure>\n  </testcase>\n')
             else:
                 out.write("/>\n")

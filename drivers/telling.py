@@ -95,8 +95,7 @@ def misused(bench):
     for case in misuses:
         run = bench.run(folder, program, args=case, patience=1)
         yield f"misuse {case}", wrong_misuse(case, run)
-    words = [HERE + "/run", "--irpx", bench.irpx, "--shake", "1", "--args", "Stuck", HERE + "/misuse"]
-    made = subprocess.run(words, capture_output=True, text=True, check=False)
+    made = bench.ran("--shake", "1", "--args", "Stuck", HERE + "/misuse")
     told = STUCK in made.stderr and made.returncode == 1
     yield "misuse Stuck, by a schedule", NO_COMPLAINT if told else made.stderr[-600:]
     ours, known = rules(), tests_of(misuses, names_of(bench.build(bench.folder("rules"), [HERE + "/rules"])))

@@ -160,6 +160,22 @@ bool touched_block(void *address)
     return !mprotect(arena + (size_t)(at - arena) / PAGE * PAGE, PAGE, PROT_READ | PROT_WRITE);
 }
 
+/* Whether it stands in a function that copies, fills or compares for its caller. */
+static bool is_helper(const void *at)
+{
+    const char *name = function_name(at);
+    return !strncmp(name, "__mem", 5) || !strncmp(name, "__str", 5) || !strncmp(name, "wdm_", 4);
+}
+
+/* Where the program touched it: the place by which a touch is the same as another. */
+static const void *place_of_touch(const Callers *by)
+{
+    int i = 0;
+    while (i < by->n && is_helper(by->at[i]))
+        i++;
+    return i < by->n ? by->at[i] : by->n ? by->at[0] : NULL;
+}
+
 /* Under G: what the handler remembers is told, by the place of the instruction. */
 void tell_block_touches(void)
 {
@@ -171,7 +187,7 @@ void tell_block_touches(void)
         if (!b)
             return; /* it is being written down */
         put_places(where, sizeof where, by->at, by->n);
-        Call *const calls = self.calls, here = { .name = where, .by = by->n ? by->at[0] : NULL };
+        Call *const calls = self.calls, here = { .name = where, .by = place_of_touch(by) };
         Frame *const frames = self.frames;
         self.calls = (Call *)&here;
         self.frames = NULL;

@@ -1,7 +1,9 @@
 /* waiting.c: waits of real threads, and the clock. Under a schedule schedule.c takes over. */
 #include "schedule.h"
+#include <dirent.h>
 #include <errno.h>
 #include <sched.h>
+#include <sys/syscall.h>
 #include <unistd.h>
 
 enum { LOOK_AGAIN = 100 }; /* milliseconds after which a waiter looks whether anything goes on */
@@ -32,8 +34,43 @@ static void read_settings(void)
         patience = atoi(seconds);
 }
 
-/* Since when nothing goes on in the host, as this waiter saw it, and since when it waits. */
-typedef struct { unsigned long seen; LONGLONG since, began; } Quiet;
+/* Since when nothing goes on in the host, as this waiter saw it, and since when it waits; when it looked last, and what
+   processors had worked for the program since nothing goes on. */
+typedef struct { unsigned long seen; LONGLONG since, began, looked, worked; } Quiet;
+
+static LONGLONG processor_time(void)
+{
+    struct timespec t;
+    clock_gettime(CLOCK_PROCESS_CPUTIME_ID, &t);
+    return (LONGLONG)t.tv_sec * 10000000 + t.tv_nsec / 100;
+}
+
+/* The state of a thread as the system has it: the letter behind its name. */
+static char letter_of(const char *thread)
+{
+    char path[64], text[256];
+    snprintf(path, sizeof path, "/proc/self/task/%.20s/stat", thread);
+    FILE *in = fopen(path, "r");
+    const size_t n = in ? fread(text, 1, sizeof text - 1, in) : 0;
+    text[n] = 0;
+    if (in)
+        fclose(in);
+    const char *behind = strrchr(text, ')');
+    return behind && behind[1] == ' ' ? behind[2] : '?';
+}
+
+/* Whether another thread could run: it has a processor, waits for one, or for its memory. */
+static bool another_can_run(void)
+{
+    const long own = syscall(SYS_gettid);
+    bool found = false;
+    DIR *all = opendir("/proc/self/task");
+    for (const struct dirent *it; all && !found && (it = readdir(all));)
+        found = atol(it->d_name) > 0 && atol(it->d_name) != own && strchr("RD", letter_of(it->d_name));
+    if (all)
+        closedir(all);
+    return found;
+}
 
 /* For how long nothing has to go on, in 100 ns, before a wait is over. Where a packet is lost the wait is most likely for
    that one: so a driver that loses each packet is told of soon. */
@@ -45,21 +82,34 @@ static LONGLONG quiet_time(const Wait *w)
     return patience * second / (packets_lost > 0 ? 10 : 1);
 }
 
-/* READY where it goes on to wait. */
+/* Where this thread got no processor for a while it looks too late. That time doesn't count: the others got none either. */
+static void note_look(Quiet *q, LONGLONG time)
+{
+    const LONGLONG late = q->looked ? time - q->looked - 2 * LOOK_AGAIN * 10000 : 0;
+    if (late > 0) {
+        q->began += late;
+        q->since += late;
+    }
+    q->looked = time;
+    if (!q->began)
+        q->began = time;
+}
+
+/* READY where it goes on to wait. A thread that could run, and gets no processor, isn't stuck; one that runs for ever is. */
 static Woken patience_is_over(const Wait *w, bool has_limit, Quiet *q)
 {
     const unsigned long now = __atomic_load_n(&host_activity, __ATOMIC_SEQ_CST);
     const LONGLONG time = now_in_100ns(), second = 10000000;
     if (w->patience == IDLES || has_limit)
         return READY;
-    if (!q->began)
-        q->began = time;
+    note_look(q, time);
     if (!q->since || ((now != q->seen || sleepers || timers_armed()) && !w->seconds)) {
         q->since = time;
         q->seen = now;
+        q->worked = processor_time();
     }
     if (time - q->since > quiet_time(w))
-        return STUCK;
+        return another_can_run() && processor_time() - q->worked < quiet_time(w) ? READY : STUCK;
     return w->patience <= HANGS && time - q->began > MANY_TIMES * patience * second ? OVERDUE : READY;
 }
 
