@@ -1,54 +1,22 @@
-/* net.c: Wine's test of a client of Winsock Kernel. The network below it is a device of this test: it pends each packet,
-   and a thread completes them one after the other. `twice` opens and closes it twice. */
+/* net.c: Wine's test of a client of Winsock Kernel, whose calls are here: each sends its packet to network.c. `twice` opens
+   and closes the client twice. */
 #include "common.h"
 #include "winsock2.h"
 #include "ddk/wsk.h"
 #include "driver.h"
 
 typedef struct { WSK_SOCKET wsk; BOOLEAN is_bound, is_datagram; PIRP waiting; } Socket;
-typedef struct { NTSTATUS status; ULONG_PTR information; } Answer;
 static PDEVICE_OBJECT network;
-static LIST_ENTRY queue;
-static KSPIN_LOCK queue_lock;
-static KSEMAPHORE queued;
-static Answer answers[64];
 static struct wdm_sockaddr_in home = { .sin_family = AF_INET, .sin_addr.s_addr = 0x0100007f };
 
 /* Sends a packet to the network, which answers it with this. The client's completion routine is set already. */
 static NTSTATUS transact(PIRP irp, NTSTATUS status, PVOID information)
 {
-    static int next;
     PIO_STACK_LOCATION location = IoGetNextIrpStackLocation(irp);
-    Answer *a = &answers[next++ % 64];
-    *a = (Answer){ status, (ULONG_PTR)information };
     location->MajorFunction = IRP_MJ_INTERNAL_DEVICE_CONTROL;
-    location->Parameters.Others.Argument1 = a;
+    location->Parameters.Others.Argument1 = (PVOID)(LONG_PTR)status;
+    location->Parameters.Others.Argument2 = information;
     return IoCallDriver(network, irp);
-}
-
-static NTSTATUS NTAPI pend(PDEVICE_OBJECT device, PIRP irp)
-{
-    UNREFERENCED_PARAMETER(device);
-    IoMarkIrpPending(irp);
-    ExInterlockedInsertTailList(&queue, &irp->Tail.Overlay.ListEntry, &queue_lock);
-    KeReleaseSemaphore(&queued, 0, 1, FALSE);
-    return STATUS_PENDING;
-}
-
-static VOID answer(PVOID context)
-{
-    UNREFERENCED_PARAMETER(context);
-    for (;;) {
-        KeWaitForSingleObject(&queued, Executive, KernelMode, FALSE, NULL);
-        PLIST_ENTRY entry = ExInterlockedRemoveHeadList(&queue, &queue_lock);
-        if (!entry)
-            PsTerminateSystemThread(STATUS_SUCCESS);
-        PIRP irp = CONTAINING_RECORD(entry, IRP, Tail.Overlay.ListEntry);
-        const Answer *a = IoGetCurrentIrpStackLocation(irp)->Parameters.Others.Argument1;
-        irp->IoStatus.Status = a->status;
-        irp->IoStatus.Information = a->information;
-        IoCompleteRequest(irp, IO_NETWORK_INCREMENT);
-    }
 }
 
 static NTSTATUS close_socket(WSK_SOCKET *socket, IRP *irp)
@@ -160,36 +128,20 @@ NTSTATUS WskCaptureProviderNPI(WSK_REGISTRATION *registration, ULONG timeout, WS
 void WskReleaseProviderNPI(WSK_REGISTRATION *registration) { UNREFERENCED_PARAMETER(registration); }
 void WskDeregister(WSK_REGISTRATION *registration) { UNREFERENCED_PARAMETER(registration); }
 
-static NTSTATUS NTAPI start_network(PDRIVER_OBJECT driver, PUNICODE_STRING path)
-{
-    UNREFERENCED_PARAMETER(path);
-    driver->MajorFunction[IRP_MJ_INTERNAL_DEVICE_CONTROL] = pend;
-    return IoCreateDevice(driver, 0, NULL, FILE_DEVICE_NETWORK, 0, FALSE, &network);
-}
-
 int main(int argc, char **argv)
 {
-    HANDLE thread;
-    PVOID object;
     WdmMakeSection(L"\\BaseNamedObjects\\winetest_ntoskrnl_section", 4096);
     WdmMakeFile(L"\\??\\C:\\windows\\winetest_ntoskrnl_okfile");
-    InitializeListHead(&queue);
-    KeInitializeSpinLock(&queue_lock);
-    KeInitializeSemaphore(&queued, 0, 1000);
-    PDRIVER_OBJECT below = WdmLoadDriver("network", start_network), driver = WdmLoadByName("driver_netio");
+    PDRIVER_OBJECT below = WdmLoadByName("network"), driver = WdmLoadByName("driver_netio");
     PDEVICE_OBJECT top = driver->DeviceObject;
-    PsCreateSystemThread(&thread, 0, NULL, NULL, NULL, answer, NULL);
-    ObReferenceObjectByHandle(thread, 0, NULL, KernelMode, &object, NULL);
+    network = below->DeviceObject;
     for (int i = 0; i < 1 + Does(argc, argv, "twice"); i++) {
         WdmSend(top, IRP_MJ_CREATE, 0, 0);
         if (!i)
             Control(top, IOCTL_WINETEST_MAIN_TEST, &(ULONG){ 0 }, 4, 4);
         WdmSend(top, IRP_MJ_CLOSE, 0, 0);
     }
-    KeReleaseSemaphore(&queued, 0, 1, FALSE);
-    KeWaitForSingleObject(object, Executive, KernelMode, FALSE, NULL);
     WdmUnloadDriver(driver);
-    IoDeleteDevice(network);
-    UNREFERENCED_PARAMETER(below);
+    WdmUnloadDriver(below);
     return WdmFinish();
 }
