@@ -1,5 +1,5 @@
 /* net.c: Wine's test of a client of Winsock Kernel, whose calls are here: each sends its packet to network.c. `twice` opens
-   and closes the client twice. */
+   and closes the client twice; in `nobody` no connection comes. */
 #include "common.h"
 #include "winsock2.h"
 #include "ddk/wsk.h"
@@ -7,6 +7,7 @@
 
 typedef struct { WSK_SOCKET wsk; BOOLEAN is_bound, is_datagram; PIRP waiting; } Socket;
 static PDEVICE_OBJECT network;
+static BOOLEAN nobody_comes;
 static struct wdm_sockaddr_in home = { .sin_family = AF_INET, .sin_addr.s_addr = 0x0100007f };
 
 /* Sends a packet to the network, which answers it with this. The client's completion routine is set already. */
@@ -68,6 +69,8 @@ static NTSTATUS accept_socket(WSK_SOCKET *socket, ULONG flags, void *context, co
 {
     static Socket accepted = { .wsk.Dispatch = &connected };
     UNREFERENCED_PARAMETER(flags), UNREFERENCED_PARAMETER(context), UNREFERENCED_PARAMETER(calls);
+    if (local && nobody_comes)
+        return transact(irp, STATUS_PENDING, NULL);
     if (!local) {
         CONTAINING_RECORD(socket, Socket, wsk)->waiting = irp;
         return STATUS_PENDING;
@@ -135,6 +138,7 @@ int main(int argc, char **argv)
     PDRIVER_OBJECT below = WdmLoadByName("network"), driver = WdmLoadByName("driver_netio");
     PDEVICE_OBJECT top = driver->DeviceObject;
     network = below->DeviceObject;
+    nobody_comes = Does(argc, argv, "nobody");
     for (int i = 0; i < 1 + Does(argc, argv, "twice"); i++) {
         WdmSend(top, IRP_MJ_CREATE, 0, 0);
         if (!i)

@@ -1,5 +1,5 @@
 /* network.c: the network below a client of Winsock Kernel: it pends each packet, and a thread completes them, one after
-   the other, with the status and the information that came as arguments. */
+   the other, with the status and the information that came as arguments. One that comes with STATUS_PENDING waits. */
 #include <wdm.h>
 
 static LIST_ENTRY queue;
@@ -10,7 +10,10 @@ static PVOID thread;
 static NTSTATUS pend(PDEVICE_OBJECT device, PIRP irp)
 {
     UNREFERENCED_PARAMETER(device);
+    const LONG_PTR status = (LONG_PTR)IoGetCurrentIrpStackLocation(irp)->Parameters.Others.Argument1;
     IoMarkIrpPending(irp);
+    if (status == STATUS_PENDING)
+        return STATUS_PENDING;
     ExInterlockedInsertTailList(&queue, &irp->Tail.Overlay.ListEntry, &queue_lock);
     KeReleaseSemaphore(&queued, 0, 1, FALSE);
     return STATUS_PENDING;
