@@ -61,10 +61,7 @@ PIRP WdmBuildFsd(ULONG Major, PDEVICE_OBJECT Device, PVOID Buffer, ULONG Length,
 PIRP WdmBuildAsynchronousFsd(ULONG Major, PDEVICE_OBJECT Device, PVOID Buffer, ULONG Length, PLARGE_INTEGER Offset,
                              PIO_STATUS_BLOCK Iosb, WDM_SITE at)
 {
-    PIRP irp = WdmBuildFsd(Major, Device, Buffer, Length, Offset, NULL, Iosb, at);
-    if (irp)
-        irp->Tail.Overlay.Thread = NULL;
-    return irp;
+    return WdmBuildFsd(Major, Device, Buffer, Length, Offset, NULL, Iosb, at);
 }
 
 /* The power packet is up: its asker is called, and it is freed. */

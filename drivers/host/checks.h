@@ -54,6 +54,7 @@ Block *new_block(size_t size, ULONG tag, ULONG kind, WDM_SITE at);
 void free_block(Block *b, WDM_SITE at);
 const char *block_text(const Block *b);
 void hand_over_block(const void *bytes);
+bool is_pool_block(const void *bytes);
 void check_pool(void);
 void tell_pool_leaks(int driver, bool is_unloaded);
 bool get_pages(Block *b);

@@ -262,6 +262,14 @@ VOID WdmFreePool(PVOID Memory, ULONG Tag, BOOLEAN HasTag, WDM_SITE at)
     leave_host();
 }
 
+bool is_pool_block(const void *bytes)
+{
+    hold_host("a block is looked up", buckets, READS);
+    const Block *b = find_block(bytes);
+    pthread_mutex_unlock(&host_lock);
+    return b != NULL;
+}
+
 /* A packet's end hands a block over to whoever sent it, as the answer to some requests of Plug and Play. */
 void hand_over_block(const void *bytes)
 {

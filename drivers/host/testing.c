@@ -29,12 +29,12 @@ NTSTATUS WdmAdd(PDRIVER_OBJECT Driver, PDEVICE_OBJECT Pdo, WDM_SITE at)
     return status;
 }
 
-PDRIVER_OBJECT WdmLoad(const char *Name, PDRIVER_INITIALIZE Entry, WDM_SITE at)
+/* Makes a driver object, and calls DriverEntry. Returns its status. */
+static NTSTATUS load(const char *Name, PDRIVER_INITIALIZE Entry, PDRIVER_OBJECT *driver, WDM_SITE at)
 {
     Call c;
     WCHAR text[160];
     UNICODE_STRING path;
-    learn_test(at.file);
     WdmSwprintf(text, ARRAYSIZE(text), L"\\Registry\\Machine\\System\\CurrentControlSet\\Services\\%S", Name);
     RtlInitUnicodeString(&path, text);
     enter_host(&c, "WdmLoadDriver", (WDM_SITE){ 0 });
@@ -59,7 +59,29 @@ PDRIVER_OBJECT WdmLoad(const char *Name, PDRIVER_INITIALIZE Entry, WDM_SITE at)
         tell_failed("DriverEntry", d, status, at);
         end_without_driver(d);
     }
-    return NT_SUCCESS(status) ? d : NULL;
+    *driver = NT_SUCCESS(status) ? d : NULL;
+    return status;
+}
+
+PDRIVER_OBJECT WdmLoad(const char *Name, PDRIVER_INITIALIZE Entry, WDM_SITE at)
+{
+    PDRIVER_OBJECT driver;
+    learn_test(at.file);
+    load(Name, Entry, &driver, at);
+    return driver;
+}
+
+/* A driver that makes another: it is named by the last part of its name. */
+NTSTATUS WdmIoCreateDriver(PUNICODE_STRING Name, PDRIVER_INITIALIZE Entry, WDM_SITE at)
+{
+    PDRIVER_OBJECT driver;
+    char *name = host_memory(Name->Length / sizeof(WCHAR) + 1u), *last = name;
+    if (!name)
+        return STATUS_INSUFFICIENT_RESOURCES;
+    for (USHORT i = 0; i < Name->Length / sizeof(WCHAR); i++)
+        if ((name[i] = (char)Name->Buffer[i]) == '\\')
+            last = name + i + 1;
+    return load(last, Entry, &driver, at);
 }
 
 extern const struct { const char *name; PDRIVER_INITIALIZE entry; } wdm_drivers[] __attribute__((weak));

@@ -24,7 +24,8 @@ static void touched(int signal_number, siginfo_t *info, void *context)
         return;
     Packet *p = (char *)info->si_addr < arena || i >= MAX_PACKETS ? NULL : packets[i];
     const bool was_watched = p && unwatch(p);
-    if (was_watched && !is_watcher(p)) {
+    const int toucher = self.frames ? self.frames->device : NOBODY;
+    if (was_watched && (!is_watcher(p) || (toucher >= 0 && p->owner == toucher))) { /* sent to itself, it has it */
         mprotect(arena + i * PAGE, PAGE, PROT_READ | PROT_WRITE);
         return;
     }
@@ -36,7 +37,7 @@ static void touched(int signal_number, siginfo_t *info, void *context)
     p->trapped = !was_watched;
     p->touch_untold = true;
     p->touched_at = toucher_of(context);
-    p->toucher = self.frames ? self.frames->device : NOBODY;
+    p->toucher = toucher;
     self.touched = p;
     mprotect(arena + i * PAGE, PAGE, PROT_READ | PROT_WRITE);
 }

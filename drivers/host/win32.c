@@ -24,6 +24,26 @@ HANDLE WdmCreateThread(LPTHREAD_START_ROUTINE StartRoutine, LPVOID Context, WDM_
     return NT_SUCCESS(WdmPsCreateSystemThread(&handle, run_start, s, at)) ? handle : NULL;
 }
 
+typedef struct { PTP_SIMPLE_CALLBACK callback; PVOID context; } Submitted;
+
+static DWORD run_submitted(LPVOID context)
+{
+    const Submitted s = *(Submitted *)context;
+    free_host_memory(context);
+    s.callback(NULL, s.context);
+    return 0;
+}
+
+BOOL WdmSubmit(PTP_SIMPLE_CALLBACK Callback, PVOID Context, WDM_SITE at)
+{
+    Submitted *s = host_memory(sizeof *s);
+    if (!s)
+        return FALSE;
+    *s = (Submitted){ Callback, Context };
+    HANDLE thread = WdmCreateThread(run_submitted, s, at);
+    return thread && NT_SUCCESS(WdmZwClose(thread, (WDM_SITE){ 0 }));
+}
+
 DWORD WdmWaitForObjects(DWORD Count, const HANDLE *Handles, BOOL All, DWORD Milliseconds, WDM_SITE at)
 {
     PVOID objects[MAXIMUM_WAIT_OBJECTS];
@@ -102,6 +122,16 @@ NTSTATUS RtlDeleteCriticalSection(CRITICAL_SECTION *Section)
     free(Section->DebugInfo);
     Section->DebugInfo = NULL;
     return STATUS_SUCCESS;
+}
+
+VOID WdmFreeHeapText(PUNICODE_STRING Text, WDM_SITE at)
+{
+    if (is_pool_block(Text->Buffer)) {
+        WdmRtlFreeUnicodeString(Text, at);
+        return;
+    }
+    free(Text->Buffer);
+    *Text = (UNICODE_STRING){ 0 };
 }
 
 /* Text: a count of -1 is text with its end. */

@@ -3,5 +3,6 @@
 #define NTIFS_H
 
 #include "wdm.h"
+#include "wdm_disk.h"
 
 #endif

@@ -4,6 +4,7 @@
 
 #include "wdm_io.h"
 #include "wdm_hw.h"
+#include "wdm_security.h"
 #include "wdm_trace.h"
 #include "wdm_guid.h"
 #include "wdm_levels.h"

@@ -50,6 +50,8 @@ VOID IoRegisterDriverReinitialization(PDRIVER_OBJECT Driver, PDRIVER_REINITIALIZ
 NTSTATUS WdmIoCreateSymbolicLink(PUNICODE_STRING Link, PUNICODE_STRING Device, WDM_SITE at);
 #define IoCreateSymbolicLink(link, device) WdmIoCreateSymbolicLink((link), (device), WDM_HERE)
 #define IoCreateUnprotectedSymbolicLink IoCreateSymbolicLink
+NTSTATUS WdmIoCreateDriver(PUNICODE_STRING Name, PDRIVER_INITIALIZE Entry, WDM_SITE at);
+#define IoCreateDriver(name, entry) WdmIoCreateDriver((name), (entry), WDM_HERE)
 NTSTATUS IoDeleteSymbolicLink(PUNICODE_STRING Link);
 NTSTATUS WdmIoRegisterDeviceInterface(PDEVICE_OBJECT Device, const GUID *Class, PUNICODE_STRING Reference,
                                       PUNICODE_STRING Link, WDM_SITE at);

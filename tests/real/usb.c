@@ -81,11 +81,13 @@ int main(int argc, char **argv)
     LARGE_INTEGER moment = { .QuadPart = -500000 };
     KeInitializeEvent(&some, SynchronizationEvent, FALSE);
     KeInitializeSpinLock(&lock);
-    PDEVICE_OBJECT host = Add(WdmLoadByName("wineusb"), WdmCreateBottom(FALSE)), device;
+    PDEVICE_OBJECT host = Add(WdmLoadByName("wineusb"), WdmCreateBottom(FALSE)), device = NULL;
     push((struct usb_event){ .type = USB_EVENT_ADD_DEVICE,
                              .u.added_device = { .device = &one, .vendor = 1, .product = 2 } });
-    KeDelayExecutionThread(KernelMode, FALSE, &moment);
-    device = Child(host, 0);
+    for (int i = 0; !device && i < 100; i++) {
+        KeDelayExecutionThread(KernelMode, FALSE, &moment);
+        device = Child(host, 0);
+    }
     if (!device || Pnp(device, IRP_MN_START_DEVICE))
         return WdmFinish();
     if (Does(argc, argv, "transfer")) {

@@ -7,6 +7,7 @@
 #define WDM_FOR_WINE
 #endif
 #include "../wdm.h"
+#include <ctype.h>
 
 #define WINAPI
 #define WINAPIV
@@ -146,6 +147,9 @@ typedef struct _RTL_CONDITION_VARIABLE { PVOID Ptr; } CONDITION_VARIABLE, RTL_CO
 #define RtlFreeHeap HeapFree
 #define RtlReAllocateHeap(heap, flags, p, n) ((void)(heap), (void)(flags), realloc((p), (n)))
 #define LocalFree(p) (free(p), NULL)
+VOID WdmFreeHeapText(PUNICODE_STRING Text, WDM_SITE at); /* of a heap, or of the pool */
+#undef RtlFreeUnicodeString
+#define RtlFreeUnicodeString(text) WdmFreeHeapText((text), WDM_HERE)
 
 /* Text, odds and ends. */
 static inline LONG MulDiv(LONG a, LONG b, LONG c) { return c ? (LONG)((LONGLONG)a * b / c) : -1; }
@@ -160,6 +164,18 @@ int WdmToNarrow(const WCHAR *From, int Count, char *To, int Room);
 #define RtlMultiByteToUnicodeSize(size, from, bytes) ((void)(*(size) = (bytes) * 2), (void)(from), STATUS_SUCCESS)
 #define RtlSetLastWin32ErrorAndNtStatusFromNtStatus(status) ((void)(status))
 #define RtlNtStatusToDosError(status) ((DWORD)(status))
+#define lstrlenW(s) ((int)wcslen(s))
+#define lstrcpyW wcscpy
+#define lstrcatW wcscat
+static inline WCHAR *WdmWcsdup(const WCHAR *s)
+{
+    const size_t bytes = (wcslen(s) + 1) * sizeof *s;
+    WCHAR *copy = malloc(bytes);
+    return copy ? memcpy(copy, s, bytes) : NULL;
+}
+#define wcsdup WdmWcsdup
+static inline char *WdmStrdup(const char *s) { return s ? strdup(s) : NULL; }
+#define strdup WdmStrdup /* of no text it is none */
 #define memicmp strncasecmp
 #define _memicmp strncasecmp
 #define GetSystemTime(t) memset((t), 0, sizeof *(t))
@@ -204,5 +220,8 @@ typedef NTSTATUS (*unixlib_entry_t)(void *);
 typedef UINT64 unixlib_handle_t;
 
 extern const DEVPROPKEY DEVPKEY_NAME;
+
+#include "winreg.h"
+#include "win32_files.h"
 
 #endif

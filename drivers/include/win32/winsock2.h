@@ -49,5 +49,31 @@ struct wdm_sockaddr_in {
 };
 #define sockaddr_in wdm_sockaddr_in
 #define in_addr wdm_in_addr
+typedef USHORT ADDRESS_FAMILY;
+typedef struct wdm_in_addr IN_ADDR, *PIN_ADDR, *LPIN_ADDR;
+typedef struct wdm_sockaddr_in SOCKADDR_IN, *PSOCKADDR_IN, *LPSOCKADDR_IN;
+typedef struct { union { UCHAR Byte[16]; USHORT Word[8]; } u; } IN6_ADDR, *PIN6_ADDR, *LPIN6_ADDR;
+typedef struct {
+    ADDRESS_FAMILY sin6_family;
+    USHORT sin6_port;
+    ULONG sin6_flowinfo;
+    IN6_ADDR sin6_addr;
+    ULONG sin6_scope_id;
+} SOCKADDR_IN6, *PSOCKADDR_IN6, *LPSOCKADDR_IN6;
+enum { ScopeLevelCount = 16 };
+typedef struct { union { struct { ULONG Zone : 28, Level : 4; }; ULONG Value; }; } SCOPE_ID;
+typedef struct { SIZE_T cmsg_len; INT cmsg_level, cmsg_type; } CMSGHDR, *PCMSGHDR;
+typedef struct addrinfoexW {
+    int ai_flags, ai_family, ai_socktype, ai_protocol;
+    size_t ai_addrlen;
+    PWSTR ai_canonname;
+    struct sockaddr *ai_addr;
+    void *ai_blob;
+    size_t ai_bloblen;
+    LPGUID ai_provider;
+    struct addrinfoexW *ai_next;
+} ADDRINFOEXW, *PADDRINFOEXW;
+#define NS_ALL 0
+typedef union { SOCKADDR_IN Ipv4; SOCKADDR_IN6 Ipv6; ADDRESS_FAMILY si_family; } SOCKADDR_INET, *PSOCKADDR_INET;
 
 #endif

@@ -1,0 +1,2 @@
+/* in6addr.h: see winsock2.h. */
+#include "winsock2.h"

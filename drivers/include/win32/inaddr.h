@@ -1,0 +1,2 @@
+/* inaddr.h: see winsock2.h. */
+#include "winsock2.h"

@@ -1,0 +1,2 @@
+/* ws2def.h: see winsock2.h. */
+#include "winsock2.h"
