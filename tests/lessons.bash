@@ -56,6 +56,7 @@ hand_in 5 5 answer 's/= NT_SUCCESS\(status\);/= TRUE;/' 1 'where the drivers bel
 hand_in 5 5 answer 's/return Complete\(Irp, status\)/return Complete(Irp, STATUS_SUCCESS)/' 1 'completes with that error'
 hand_in 5 5 answer 's/IoCopyCurrentIrpStackLocationToNext/IoSkipCurrentIrpStackLocation/' 1 'Think: After IoSkip'
 hand_in 5 5 answer 's/    KeSetEvent/    if (Irp->PendingReturned)\n    &/;s/    UNREFERENCED_PARAMETER\(Irp\);\n//' 0 'lesson 5: right'
+hand_in 5 5 answer 's/(Ext->IsStarted = )[^;]*;/if (status >= 0)\n        \1TRUE;/' 0 'lesson 5: right'
 hand_in 9 8 answer '' 1 'a read that is kept with a cancel routine'
 
 said=$(../lessons/check --all)
