@@ -57,6 +57,8 @@ hand_in 5 5 answer 's/return Complete\(Irp, status\)/return Complete(Irp, STATUS
 hand_in 5 5 answer 's/IoCopyCurrentIrpStackLocationToNext/IoSkipCurrentIrpStackLocation/' 1 'Think: After IoSkip'
 hand_in 5 5 answer 's/    KeSetEvent/    if (Irp->PendingReturned)\n    &/;s/    UNREFERENCED_PARAMETER\(Irp\);\n//' 0 'lesson 5: right'
 hand_in 5 5 answer 's/(Ext->IsStarted = )[^;]*;/if (status >= 0)\n        \1TRUE;/' 0 'lesson 5: right'
+hand_in 6 6 answer 's/ && IoSetCancelRoutine\(Irp, NULL\) != NULL//' 1 'and takes the routine out again?'
+hand_in 6 6 answer 's/(if \(Irp->Cancel) && (IoSetCancelRoutine\(Irp, NULL\)) != NULL\)\n( *)(isHeld = FALSE;)/\1) {\n\3\2;\n\3\4\n    }/' 1 'Think: Two places complete'
 hand_in 9 8 answer '' 1 'a read that is kept with a cancel routine'
 
 said=$(../lessons/check --all)
