@@ -39,6 +39,8 @@ WANTED = [
     (r"error: ([\w./]+\.h): No such file", "{}"),
     (r"undefined (?:reference|symbol)(?: to|:) [‘'`]?(\w+)[’']?", "{}"),
 ]
+# A macro that is there, and was given too few or too many arguments.
+THERE = r"""macro [‘'"](\w+)[’'"] (?:requires|passed|defined here)"""
 
 
 def group_of(name):
@@ -48,9 +50,9 @@ def group_of(name):
 
 def names_in(said):
     """Returns the names that a compiler or a linker says aren't there, each once, in order of their names."""
-    found = {}
+    found, there = {}, set(re.findall(THERE, said))
     for pattern, text in WANTED:
-        for name in re.findall(pattern, said):
+        for name in set(re.findall(pattern, said)) - there:
             found[text.format(name)] = group_of(name) or ("a header" if name.endswith(".h") else None)
     return sorted(found.items())
 
