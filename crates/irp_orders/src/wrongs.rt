@@ -42,15 +42,6 @@ impl fmt::Display for LiveName<'_> {
     }
 }
 
-/// The name of a live packet of an outcome.
-fn name_of<'a>(columns: &Columns<'a>, found: &'a Found, live: &'a LiveEnd) -> LiveName<'a> {
-    LiveName {
-        live,
-        labels: columns.labels,
-        named: found.outcome.end.labels.as_slice(),
-    }
-}
-
 /// Puts the line of one thing that is wrong.
 fn put_wrong<T: fmt::Display>(
     alloc: Global,
@@ -102,14 +93,27 @@ fn put_refused(alloc: Global, out: &mut Vec<u8>, found: &Found) -> Result<(), Al
 
 /// A packet that a device has.
 #[derive(Clone, Copy)]
-struct KeptWords<'a>(LiveName<'a>);
+struct KeptWords<'a> {
+    live: &'a LiveEnd,
+    labels: &'a [String],
+    named: &'a [IrpRef],
+}
 
 impl fmt::Display for KeptWords<'_> {
     fn fmt<W: fmt::Write>(&self, f: &mut fmt::Formatter<W>) -> fmt::Result {
-        if let Owner::Device(device) = self.0.live.owner {
+        let (live, labels, named) = (self.live, self.labels, self.named);
+        if let Owner::Device(device) = live.owner {
             write!(f, "D{} has ", device.0)?;
         }
-        write!(f, "{}", self.0)
+        write!(
+            f,
+            "{}",
+            LiveName {
+                live,
+                labels,
+                named
+            }
+        )
     }
 }
 
@@ -120,9 +124,15 @@ fn put_kept(
     columns: &Columns<'_>,
     found: &Found,
 ) -> Result<(), AllocError> {
-    for live in found.outcome.end.packets.as_slice() {
+    let end = &found.outcome.end;
+    for live in end.packets.as_slice() {
         if !is_back(live) {
-            put_wrong(alloc, out, &KeptWords(name_of(columns, found, live)))?;
+            let words = KeptWords {
+                live,
+                labels: columns.labels,
+                named: end.labels.as_slice(),
+            };
+            put_wrong(alloc, out, &words)?;
         }
     }
     Ok(())
@@ -192,11 +202,21 @@ fn put_full(alloc: Global, out: &mut Vec<u8>, found: &Found) -> Result<(), Alloc
 
 /// A packet that still has a cancel routine.
 #[derive(Clone, Copy)]
-struct LeftWords<'a>(LiveName<'a>);
+struct LeftWords<'a> {
+    live: &'a LiveEnd,
+    labels: &'a [String],
+    named: &'a [IrpRef],
+}
 
 impl fmt::Display for LeftWords<'_> {
     fn fmt<W: fmt::Write>(&self, f: &mut fmt::Formatter<W>) -> fmt::Result {
-        write!(f, "{} still has a cancel routine", self.0)
+        let (live, labels, named) = (self.live, self.labels, self.named);
+        let name = LiveName {
+            live,
+            labels,
+            named,
+        };
+        write!(f, "{} still has a cancel routine", name)
     }
 }
 
@@ -207,9 +227,15 @@ fn put_left(
     columns: &Columns<'_>,
     found: &Found,
 ) -> Result<(), AllocError> {
-    for live in found.outcome.end.packets.as_slice() {
+    let end = &found.outcome.end;
+    for live in end.packets.as_slice() {
         if !is_without_routine(live) {
-            put_wrong(alloc, out, &LeftWords(name_of(columns, found, live)))?;
+            let words = LeftWords {
+                live,
+                labels: columns.labels,
+                named: end.labels.as_slice(),
+            };
+            put_wrong(alloc, out, &words)?;
         }
     }
     Ok(())
