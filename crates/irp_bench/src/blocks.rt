@@ -3,11 +3,11 @@
 ghost use Rattle.irp_transcript.specs.Headers.{IsHeader};
 
 use crate::done::Done;
-use crate::fault::Fault;
+use crate::not_timed::NotTimed;
 use crate::texts::Sample;
+use irp_fast_reader::{Ahead, Line, Reader};
 use irp_judge::{Judge, Verdict};
 use irp_shared::Header;
-use irp_text::{Ahead, Line, Reader};
 use std::alloc::Global;
 use std::rt::Clock;
 use std::thread::Threads;
@@ -23,7 +23,7 @@ fn judge_block(
     judge: &mut Judge,
     block: &[u8],
     ahead: &mut Ahead<'_>,
-) -> Result<(), Fault> {
+) -> Result<(), NotTimed> {
     let mut rest = block;
     while !rest.is_empty() {
         let Some(taken) = reader.next_ahead(alloc, rest, ahead)? else {
@@ -46,7 +46,7 @@ fn judge_blocks<R: Threads + Sync>(
     judge: &mut Judge,
     text: &[u8],
     threads: u32,
-) -> Result<(), Fault> {
+) -> Result<(), NotTimed> {
     for block in text.chunks(BLOCK) {
         let mut ahead = Ahead::of(rt, alloc, block, threads as usize);
         judge_block(alloc, reader, judge, block, &mut ahead)?;
@@ -61,7 +61,7 @@ fn verdict_on<R: Threads + Sync>(
     header: &Header,
     text: &[u8],
     threads: u32,
-) -> Result<Verdict, Fault>
+) -> Result<Verdict, NotTimed>
     requires { IsHeader header.now }
 {
     let mut reader = Reader::new(alloc);
@@ -78,17 +78,17 @@ pub fn read_and_judge<R: Threads + Sync + Clock>(
     alloc: Global,
     sample: &Sample,
     threads: u32,
-) -> Result<Done, Fault> {
+) -> Result<Done, NotTimed> {
     sample.transcript.is_one();
     let Some(header) = sample.transcript.header() else {
-        return Err(Fault::Failed);
+        return Err(NotTimed::Failed);
     };
     let start = Instant::now(rt)?;
     let verdict = verdict_on(rt, alloc, header, sample.text.as_slice(), threads)?;
     let taken = start.elapsed(rt)?;
     let entries = u64::from(sample.entries);
     if verdict != (Verdict::Legal { entries }) {
-        return Err(Fault::NotLegal);
+        return Err(NotTimed::NotLegal);
     }
     Ok(Done::new(sample.entries, sample.text.len() as u64, taken))
 }

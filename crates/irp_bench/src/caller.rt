@@ -10,7 +10,7 @@ ghost use Rattle.irp_manager.specs.Keeps.{slabbed};
 ghost use Rattle.irp_manager.specs.ManagerStates.{state_of, Stepped};
 ghost use Rattle.irp_bench.specs.Makes.{Keeps};
 
-use crate::fault::Fault;
+use crate::not_timed::NotTimed;
 use irp_manager::{KnowsNothing, Manager};
 use irp_routines::{Ask, Store};
 use irp_shared::{Seat, Session, Shared, needs_token};
@@ -33,7 +33,7 @@ pub trait Caller {
     ghost makes: { Self → Call → Reply → Self → Type 0 };
 
     /// Makes a call, and tells how it was answered.
-    fn make(&mut self, call: Call) -> Result<Answered, Fault>
+    fn make(&mut self, call: Call) -> Result<Answered, NotTimed>
         ensures { IfOk result (λ answered. makes self.old call answered.reply self.new) };
 }
 
@@ -59,7 +59,7 @@ impl Caller for Alone {
         × Stepped slabbed old.manager.ask.tables drained old.manager.state call asked reply
         new.manager.state };
 
-    fn make(&mut self, call: Call) -> Result<Answered, Fault> {
+    fn make(&mut self, call: Call) -> Result<Answered, NotTimed> {
         let applied = self.manager.apply(call, &KnowsNothing)?;
         Ok(Answered {
             reply: applied.reply,
@@ -88,9 +88,9 @@ fn questions<L: Session>(seat: &Seat<L>) -> usize {
 impl<R: Wait, A: Ask, L: Session> Caller for Recorder<'_, R, A, L> {
     ghost makes = { λ old call reply new. Keeps old.seat call reply new.seat };
 
-    fn make(&mut self, call: Call) -> Result<Answered, Fault> {
+    fn make(&mut self, call: Call) -> Result<Answered, NotTimed> {
         if needs_token(call) {
-            return Err(Fault::Failed);
+            return Err(NotTimed::Failed);
         }
         let receipt = self
             .shared

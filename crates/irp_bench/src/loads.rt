@@ -1,7 +1,7 @@
 //! The loads of calls, as works.
 
 use crate::done::Done;
-use crate::fault::Fault;
+use crate::not_timed::NotTimed;
 use crate::packets::{Batch, Packet, Scene};
 use crate::sessions::{Work, do_work};
 use irp_types::DeviceId;
@@ -91,7 +91,7 @@ pub fn sends(devices: u32, packets: u32, batches: u32, seats: Option<u32>) -> Wo
 fn time_of<R: Threads + Wait + Sync + Clock + AllocGlobal>(
     rt: &R,
     work: Work,
-) -> Result<Duration, Fault> {
+) -> Result<Duration, NotTimed> {
     Ok(do_work(rt, work)?.taken)
 }
 
@@ -100,7 +100,7 @@ fn time_of_all<R: Threads + Wait + Sync + Clock + AllocGlobal>(
     rt: &R,
     work: Work,
     times: u32,
-) -> Result<Duration, Fault> {
+) -> Result<Duration, NotTimed> {
     let mut taken = Duration::ZERO;
     for _ in 0..times {
         taken = taken.saturating_add(time_of(rt, work)?);
@@ -132,7 +132,7 @@ pub fn time_calls<R: Threads + Wait + Sync + Clock + AllocGlobal>(
     calls: Calls,
     number: u32,
     is_recorded: bool,
-) -> Result<Done, Fault> {
+) -> Result<Done, NotTimed> {
     let (work, times) = work_of(calls, number, is_recorded);
     let taken = time_of_all(rt, work, times)?;
     Ok(Done::new(work.count().saturating_mul(times), 0, taken))

@@ -5,7 +5,7 @@ ghost use Rattle.std.specs.Prelude.{◌≡◌, []};
 ghost use Rattle.irp_remove.specs.Pairing.{IsSeatOf};
 
 use crate::done::Done;
-use crate::fault::Fault;
+use crate::not_timed::NotTimed;
 use irp_remove::{Locks, RemoveSeat, open};
 use irp_types::LockNo;
 use std::rt::Clock;
@@ -21,14 +21,14 @@ const LOCK: LockNo = LockNo(0);
 
 /// Takes a reference to the lock and gives it back, so many times, each time under another tag. It stops at the first
 /// that is refused.
-fn reference_pairs(locks: &Locks, seat: &mut RemoveSeat, count: u32) -> Result<(), Fault>
+fn reference_pairs(locks: &Locks, seat: &mut RemoveSeat, count: u32) -> Result<(), NotTimed>
     requires fits { IsSeatOf locks.now seat.old }
     requires empty { seat.old.held ≡ [] }
     ensures { seat.new.held ≡ [] }
 {
     for tag in 0..count {
         if locks.acquire(seat, LOCK, tag).is_err() || locks.release(seat, LOCK, tag).is_err() {
-            return Err(Fault::Failed);
+            return Err(NotTimed::Failed);
         }
     }
     Ok(())
@@ -46,16 +46,16 @@ fn word_pairs(word: &AtomicU64, count: u32) {
 pub fn acquire_and_release<R: Threads + Sync + Clock + AllocGlobal>(
     rt: &R,
     threads: u32,
-) -> Result<Done, Fault> {
+) -> Result<Done, NotTimed> {
     let Ok((locks, seats)) = open(rt.alloc(), 1, threads) else {
-        return Err(Fault::Memory);
+        return Err(NotTimed::Memory);
     };
     let shared = &locks;
     let start = Instant::now(rt)?;
     let made = thread::map_vec(
         rt,
         seats,
-        &|mut seat: RemoveSeat| -> Result<(), Fault>
+        &|mut seat: RemoveSeat| -> Result<(), NotTimed>
             requires { IsSeatOf shared.now seat × (seat.held ≡ []) }
         { reference_pairs(shared, &mut seat, PAIRS) },
     )?;
@@ -70,7 +70,7 @@ pub fn acquire_and_release<R: Threads + Sync + Clock + AllocGlobal>(
 pub fn add_and_subtract<R: Threads + Sync + Clock + AllocGlobal>(
     rt: &R,
     threads: u32,
-) -> Result<Done, Fault> {
+) -> Result<Done, NotTimed> {
     let word = AtomicU64::new(0);
     let shared = &word;
     let start = Instant::now(rt)?;

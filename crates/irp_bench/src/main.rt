@@ -5,16 +5,16 @@
 mod blocks;
 mod caller;
 mod done;
-mod fault;
 mod loads;
 mod locks;
+mod not_timed;
 mod packets;
 mod sessions;
 mod slots;
 mod table;
 mod texts;
 
-use crate::fault::Fault;
+use crate::not_timed::NotTimed;
 use std::process::ExitCode;
 use std::rt::{Clock, Env};
 use std::sync::Wait;
@@ -22,20 +22,22 @@ use std::thread::Threads;
 use std::{env, io};
 
 /// The words that the program was given, behind its name.
-fn words_of<R: Env + AllocGlobal>(rt: &R) -> Result<Vec<String>, Fault> {
+fn words_of<R: Env + AllocGlobal>(rt: &R) -> Result<Vec<String>, NotTimed> {
     match env::args(rt) {
         Ok(words) => Ok(words.skip(1).collect(rt.alloc())?),
-        Err(error) if error.kind() == io::ErrorKind::OutOfMemory => Err(Fault::Memory),
-        Err(_) => Err(Fault::Usage),
+        Err(error) if error.kind() == io::ErrorKind::OutOfMemory => Err(NotTimed::Memory),
+        Err(_) => Err(NotTimed::Usage),
     }
 }
 
 /// Times what the words ask for, and nothing where there are none.
-fn run<R: Threads + Wait + Sync + Clock + Env + Eprint + AllocGlobal>(rt: &R) -> Result<(), Fault> {
+fn run<R: Threads + Wait + Sync + Clock + Env + Eprint + AllocGlobal>(
+    rt: &R,
+) -> Result<(), NotTimed> {
     match words_of(rt)?.as_slice() {
         [] => Ok(()),
         [word] => table::time_rows(rt, word.as_str()),
-        _ => Err(Fault::Usage),
+        _ => Err(NotTimed::Usage),
     }
 }
 
@@ -46,6 +48,6 @@ fn main(rt: HostRuntime) -> ExitCode {
     let (status, line) = fault.told();
     match eprintln!(&rt; "irp_bench: {line}") {
         Ok(()) => ExitCode::from(status),
-        Err(_) => ExitCode::from(Fault::Failed.told().0),
+        Err(_) => ExitCode::from(NotTimed::Failed.told().0),
     }
 }

@@ -8,7 +8,7 @@ ghost use Rattle.irp_types.specs.Status.{success};
 ghost use Rattle.irp_bench.specs.Makes.{MakesPacket, MakesSend, MakesBatch, Repeats};
 
 use crate::caller::{Answered, Caller};
-use crate::fault::Fault;
+use crate::not_timed::NotTimed;
 use irp_types::{
     Call, DeviceId, DriverId, IrpRef, LockNo, Party, Refusal, Reply, RoutineId, Rule, Setting,
     Status,
@@ -68,37 +68,37 @@ pub struct Scene {
 }
 
 /// Allocates a packet.
-fn allocate<C: Caller>(caller: &mut C, size: u8) -> Result<IrpRef, Fault>
+fn allocate<C: Caller>(caller: &mut C, size: u8) -> Result<IrpRef, NotTimed>
     ensures { IfOk result (λ irp. C.makes caller.old (Allocate size) (Irp irp) caller.new) }
 {
     match caller.make(Call::Allocate { size })?.reply {
         Reply::Irp(irp) => Ok(irp),
-        _ => Err(Fault::Failed),
+        _ => Err(NotTimed::Failed),
     }
 }
 
 /// Makes a call that must be answered Done.
-fn done<C: Caller>(caller: &mut C, call: Call) -> Result<(), Fault>
+fn done<C: Caller>(caller: &mut C, call: Call) -> Result<(), NotTimed>
     ensures { IfOk result (λ _. C.makes caller.old call Done caller.new) }
 {
     match caller.make(call)?.reply {
         Reply::Done => Ok(()),
-        _ => Err(Fault::Failed),
+        _ => Err(NotTimed::Failed),
     }
 }
 
 /// Makes a call that must be refused, and answers why it was.
-fn refused<C: Caller>(caller: &mut C, call: Call) -> Result<Refusal, Fault>
+fn refused<C: Caller>(caller: &mut C, call: Call) -> Result<Refusal, NotTimed>
     ensures { IfOk result (λ refusal. C.makes caller.old call (Refused refusal) caller.new) }
 {
     match caller.make(call)?.reply {
         Reply::Refused(refusal) => Ok(refusal),
-        _ => Err(Fault::Failed),
+        _ => Err(NotTimed::Failed),
     }
 }
 
 /// Makes the calls of `Packet::Round`.
-fn round<C: Caller>(caller: &mut C) -> Result<(), Fault>
+fn round<C: Caller>(caller: &mut C) -> Result<(), NotTimed>
     ensures { IfOk result (λ _. MakesPacket C.makes Packet.Round caller.old caller.new) }
 {
     let irp = allocate(caller, 1)?;
@@ -115,7 +115,7 @@ fn round<C: Caller>(caller: &mut C) -> Result<(), Fault>
 }
 
 /// Makes the calls of `Packet::Unused`.
-fn unused<C: Caller>(caller: &mut C) -> Result<(), Fault>
+fn unused<C: Caller>(caller: &mut C) -> Result<(), NotTimed>
     ensures { IfOk result (λ _. MakesPacket C.makes Packet.Unused caller.old caller.new) }
 {
     let irp = allocate(caller, 16)?;
@@ -123,7 +123,7 @@ fn unused<C: Caller>(caller: &mut C) -> Result<(), Fault>
 }
 
 /// Makes the calls of one packet. It stops at the first that is answered otherwise.
-fn make<C: Caller>(caller: &mut C, packet: Packet) -> Result<(), Fault>
+fn make<C: Caller>(caller: &mut C, packet: Packet) -> Result<(), NotTimed>
     ensures { IfOk result (λ _. MakesPacket C.makes packet caller.old caller.new) }
 {
     match packet {
@@ -133,7 +133,7 @@ fn make<C: Caller>(caller: &mut C, packet: Packet) -> Result<(), Fault>
 }
 
 /// Makes the calls of so many packets, one after the other. It stops at the first that is answered otherwise.
-fn repeat<C: Caller>(caller: &mut C, packet: Packet, count: u32) -> Result<(), Fault>
+fn repeat<C: Caller>(caller: &mut C, packet: Packet, count: u32) -> Result<(), NotTimed>
     ensures { IfOk result (λ _. Repeats (MakesPacket C.makes packet) count caller.old caller.new) }
 {
     for made in 0..count {
@@ -143,24 +143,24 @@ fn repeat<C: Caller>(caller: &mut C, packet: Packet, count: u32) -> Result<(), F
 }
 
 /// Sends a packet to a device. It must come back with success, after two questions at each level.
-fn send<C: Caller>(caller: &mut C, irp: IrpRef, target: DeviceId) -> Result<(), Fault>
+fn send<C: Caller>(caller: &mut C, irp: IrpRef, target: DeviceId) -> Result<(), NotTimed>
     ensures { IfOk result (λ _.
         C.makes caller.old (CallDriver Originator irp target) (StatusIs success) caller.new) }
 {
     let party = Party::Originator;
     let Answered { reply, questions } = caller.make(Call::CallDriver { party, irp, target })?;
     let Reply::Status(Status::SUCCESS) = reply else {
-        return Err(Fault::Failed);
+        return Err(NotTimed::Failed);
     };
     if questions == 2 * (target.0 as usize + 1) {
         Ok(())
     } else {
-        Err(Fault::Failed)
+        Err(NotTimed::Failed)
     }
 }
 
 /// Sends each of these packets, one after the other. It stops at the first that comes back otherwise.
-fn send_all<C: Caller>(caller: &mut C, packets: &[IrpRef], target: DeviceId) -> Result<(), Fault>
+fn send_all<C: Caller>(caller: &mut C, packets: &[IrpRef], target: DeviceId) -> Result<(), NotTimed>
     ensures { IfOk result (λ _.
         Repeats (MakesSend C.makes target) (length packets.now) caller.old caller.new) }
 {
@@ -171,7 +171,11 @@ fn send_all<C: Caller>(caller: &mut C, packets: &[IrpRef], target: DeviceId) -> 
 }
 
 /// Makes the calls of a batch. It stops at the first that is answered otherwise.
-pub fn make_batch<C: Caller>(caller: &mut C, batch: Batch, packets: &[IrpRef]) -> Result<(), Fault>
+pub fn make_batch<C: Caller>(
+    caller: &mut C,
+    batch: Batch,
+    packets: &[IrpRef],
+) -> Result<(), NotTimed>
     ensures { IfOk result (λ _.
         MakesBatch C.makes batch (length packets.now) caller.old caller.new) }
 {
@@ -183,12 +187,12 @@ pub fn make_batch<C: Caller>(caller: &mut C, batch: Batch, packets: &[IrpRef]) -
 
 /// Makes a packet ready to be sent: another use of it begins, its highest location is filled with a read, and the
 /// routine of rule Watch is set there. Answers the packet in that use.
-fn ready<C: Caller>(caller: &mut C, used: IrpRef) -> Result<IrpRef, Fault> {
+fn ready<C: Caller>(caller: &mut C, used: IrpRef) -> Result<IrpRef, NotTimed> {
     let (party, setting) = (Party::Originator, WATCH);
     let (major, word) = (READ, 7);
     let status = Status::SUCCESS;
     let Reply::Irp(irp) = caller.make(Call::Reuse { irp: used, status })?.reply else {
-        return Err(Fault::Failed);
+        return Err(NotTimed::Failed);
     };
     let fill = Call::SetNext {
         party,
@@ -207,7 +211,7 @@ fn ready<C: Caller>(caller: &mut C, used: IrpRef) -> Result<IrpRef, Fault> {
 }
 
 /// Makes each of these packets ready to be sent.
-pub fn make_ready<C: Caller>(caller: &mut C, packets: &mut [IrpRef]) -> Result<(), Fault> {
+pub fn make_ready<C: Caller>(caller: &mut C, packets: &mut [IrpRef]) -> Result<(), NotTimed> {
     for packet in packets.iter_mut() {
         *packet = ready(caller, *packet)?;
     }
@@ -215,13 +219,13 @@ pub fn make_ready<C: Caller>(caller: &mut C, packets: &mut [IrpRef]) -> Result<(
 }
 
 /// Builds a stack of so many devices, numbered from 0 upwards, of driver 0 and under lock 0.
-fn stack<C: Caller>(caller: &mut C, devices: u32) -> Result<(), Fault> {
+fn stack<C: Caller>(caller: &mut C, devices: u32) -> Result<(), NotTimed> {
     let (driver, lock) = (DriverId(0), LockNo(0));
     for level in 0..devices {
         let device = DeviceId(level);
         let create = Call::CreateDevice { driver, lock };
         if caller.make(create)?.reply != Reply::Device(device) {
-            return Err(Fault::Failed);
+            return Err(NotTimed::Failed);
         }
         if level > 0 {
             let to = DeviceId(level - 1);
@@ -236,7 +240,7 @@ pub fn set_up<C: Caller>(
     caller: &mut C,
     alloc: Global,
     scene: Scene,
-) -> Result<Vec<IrpRef>, Fault> {
+) -> Result<Vec<IrpRef>, NotTimed> {
     stack(caller, scene.devices)?;
     let mut packets = Vec::new(alloc);
     for _ in 0..scene.packets {

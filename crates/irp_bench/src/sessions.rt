@@ -8,7 +8,7 @@ ghost use Rattle.irp_types.specs.declared.routine.Rule.TheVariants.{Watch};
 ghost use Rattle.irp_shared.specs.Answered.{AnswersSo};
 
 use crate::caller::{Alone, Caller, Recorder};
-use crate::fault::Fault;
+use crate::not_timed::NotTimed;
 use crate::packets::{Batch, READ, Scene, WATCH, make_batch, make_ready, set_up};
 use irp_routines::{Ask, Dispatch, Routine, Store};
 use irp_shared::{Seat, Session, Shared, Transcript, open};
@@ -95,7 +95,7 @@ fn time_batches<C: Caller, R: Clock>(
     caller: &mut C,
     packets: &mut [IrpRef],
     work: Work,
-) -> Result<Duration, Fault> {
+) -> Result<Duration, NotTimed> {
     let mut taken = Duration::ZERO;
     for _ in 0..work.batches {
         make_ready(caller, packets)?;
@@ -112,7 +112,7 @@ fn timed<C: Caller, R: Clock>(
     alloc: Global,
     caller: &mut C,
     work: Work,
-) -> Result<Duration, Fault> {
+) -> Result<Duration, NotTimed> {
     let mut packets = set_up(caller, alloc, work.scene)?;
     time_batches(rt, caller, packets.as_mut_slice(), work)
 }
@@ -127,7 +127,7 @@ fn in_seat<A: Ask, L: Session, R: Wait + Clock>(
     shared: &Shared<A, L>,
     seat: Seat<L>,
     work: Work,
-) -> Result<Sat<L>, Fault> {
+) -> Result<Sat<L>, NotTimed> {
     let mut caller = Recorder { rt, shared, seat };
     let taken = timed(rt, alloc, &mut caller, work)?;
     Ok((caller.seat, taken))
@@ -136,8 +136,8 @@ fn in_seat<A: Ask, L: Session, R: Wait + Clock>(
 /// All seats, and how long the batches of the last one took.
 fn gathered<L: Session>(
     alloc: Global,
-    made: Vec<Result<Sat<L>, Fault>>,
-) -> Result<(Vec<Seat<L>>, Duration), Fault> {
+    made: Vec<Result<Sat<L>, NotTimed>>,
+) -> Result<(Vec<Seat<L>>, Duration), NotTimed> {
     let mut seats = Vec::new(alloc);
     let mut taken = Duration::ZERO;
     for one in made {
@@ -155,7 +155,7 @@ fn in_seats<A: Ask + Send, L: Session + Send + Sync, R: Threads + Wait + Sync + 
     shared: &Shared<A, L>,
     seats: Vec<Seat<L>>,
     work: Work,
-) -> Result<(Vec<Seat<L>>, Duration), Fault> {
+) -> Result<(Vec<Seat<L>>, Duration), NotTimed> {
     let start = Instant::now(rt)?;
     let made = thread::map_vec(rt, seats, &|seat| in_seat(rt, alloc, shared, seat, work))?;
     let all = start.elapsed(rt);
@@ -172,7 +172,7 @@ fn recorded<A: Ask + Send + Drop, L: Session + Send + Sync, R: Threads + Wait + 
     ask: A,
     seats: u32,
     work: Work,
-) -> Result<Outcome, Fault>
+) -> Result<Outcome, NotTimed>
     requires blank { (blank.name ≡ L.name) × (blank.parts ≡ L.parts) }
     requires seats { (L.parts ≡ seats) × (L.seats ≡ seats) }
     requires fixed { L.fixed ≡ record { locks = 1; tables = A.tables ask; limit = ThirtyTwo } }
@@ -185,12 +185,12 @@ fn recorded<A: Ask + Send + Drop, L: Session + Send + Sync, R: Threads + Wait + 
             taken,
             transcript: Some(transcript),
         }),
-        Err(_) => Err(Fault::Failed),
+        Err(_) => Err(NotTimed::Failed),
     }
 }
 
 /// Does the work by the manager alone.
-fn alone<R: Clock>(rt: &R, alloc: Global, store: Store, work: Work) -> Result<Outcome, Fault> {
+fn alone<R: Clock>(rt: &R, alloc: Global, store: Store, work: Work) -> Result<Outcome, NotTimed> {
     let taken = timed(rt, alloc, &mut Alone::new(alloc, store), work);
     Ok(Outcome {
         taken: taken?,
@@ -204,7 +204,7 @@ fn with_store<R: Threads + Wait + Sync + Clock>(
     alloc: Global,
     store: Store,
     work: Work,
-) -> Result<Outcome, Fault> {
+) -> Result<Outcome, NotTimed> {
     match work.seats {
         None => alone(rt, alloc, store, work),
         Some(seats) => {
@@ -219,7 +219,7 @@ fn with_store<R: Threads + Wait + Sync + Clock>(
 pub fn do_work<R: Threads + Wait + Sync + Clock + AllocGlobal>(
     rt: &R,
     work: Work,
-) -> Result<Outcome, Fault> {
+) -> Result<Outcome, NotTimed> {
     let alloc = rt.alloc();
     let reads = [(READ, DispatchId(0))].to_vec(alloc)?;
     let watch = Routine::new(Rule::Watch, Box::new(alloc, watches)?);
@@ -231,5 +231,5 @@ pub fn do_work<R: Threads + Wait + Sync + Clock + AllocGlobal>(
     if has_watch && has_forward && has_driver {
         return with_store(rt, alloc, store, work);
     }
-    Err(Fault::Memory)
+    Err(NotTimed::Memory)
 }

@@ -5,7 +5,7 @@ ghost use Rattle.irp_slots.specs.Pairing.{IsOwnerOf, IsCancellerOf};
 ghost use Rattle.irp_bench.specs.Slots.{TookBack, TookMore};
 
 use crate::done::Done;
-use crate::fault::Fault;
+use crate::not_timed::NotTimed;
 use irp_slots::{Canceller, Request, SlotOwner, Slots, Withdrawal, open};
 use irp_types::IrpRef;
 use std::rt::Clock;
@@ -30,7 +30,7 @@ pub enum Pair {
 }
 
 /// Publishes the packet, and withdraws it. It is an error unless the owner took it.
-fn publish_and_withdraw(slots: &Slots, owner: &mut SlotOwner) -> Result<(), Fault>
+fn publish_and_withdraw(slots: &Slots, owner: &mut SlotOwner) -> Result<(), NotTimed>
     requires { IsOwnerOf slots.now owner.old }
     ensures table { owner.new.table ≡ owner.old.table }
     ensures took { IfOk result (λ _. TookBack owner.new) }
@@ -38,7 +38,7 @@ fn publish_and_withdraw(slots: &Slots, owner: &mut SlotOwner) -> Result<(), Faul
     slots.publish(owner, PACKET);
     match slots.withdraw(owner) {
         Withdrawal::Taken(_) => Ok(()),
-        _ => Err(Fault::Failed),
+        _ => Err(NotTimed::Failed),
     }
 }
 
@@ -47,7 +47,7 @@ fn publish_and_request(
     slots: &Slots,
     owner: &mut SlotOwner,
     canceller: &mut Canceller,
-) -> Result<(), Fault>
+) -> Result<(), NotTimed>
     requires owner { IsOwnerOf slots.now owner.old }
     requires canceller { IsCancellerOf slots.now canceller.old }
     ensures owner { owner.new.table ≡ owner.old.table }
@@ -57,12 +57,12 @@ fn publish_and_request(
     slots.publish(owner, PACKET);
     match slots.request(canceller, owner.slot()) {
         Request::Taken(_) => Ok(()),
-        _ => Err(Fault::Failed),
+        _ => Err(NotTimed::Failed),
     }
 }
 
 /// Each owner publishes the packet, and withdraws it. It stops at the first that doesn't take it.
-fn withdraw_all(slots: &Slots, owners: &mut [SlotOwner]) -> Result<(), Fault>
+fn withdraw_all(slots: &Slots, owners: &mut [SlotOwner]) -> Result<(), NotTimed>
     requires { All (IsOwnerOf slots.now) owners.old }
     ensures { IfOk result (λ _. All TookBack owners.new) }
 {
@@ -77,7 +77,7 @@ fn request_all(
     slots: &Slots,
     owners: &mut [SlotOwner],
     canceller: &mut Canceller,
-) -> Result<(), Fault>
+) -> Result<(), NotTimed>
     requires owners { All (IsOwnerOf slots.now) owners.old }
     requires canceller { IsCancellerOf slots.now canceller.old }
     ensures { IfOk result (λ _. TookMore (length owners.old) canceller.old canceller.new) }
@@ -104,7 +104,7 @@ fn time_pairs<R: Clock>(
     slots: &Slots,
     owners: &mut [SlotOwner],
     canceller: &mut Canceller,
-) -> Result<Duration, Fault>
+) -> Result<Duration, NotTimed>
     requires owners { All (IsOwnerOf slots.now) owners.old }
     requires canceller { IsCancellerOf slots.now canceller.old }
 {
@@ -119,12 +119,16 @@ fn time_pairs<R: Clock>(
 }
 
 /// Opens so many slots, and times a pair of calls on each, or as many bare steps. To open them is not in the time.
-fn time_table<R: Clock + AllocGlobal>(rt: &R, pair: Pair, slots: u32) -> Result<Duration, Fault> {
+fn time_table<R: Clock + AllocGlobal>(
+    rt: &R,
+    pair: Pair,
+    slots: u32,
+) -> Result<Duration, NotTimed> {
     let Ok((opened, mut owners, mut cancellers)) = open(rt.alloc(), slots, 1) else {
-        return Err(Fault::Memory);
+        return Err(NotTimed::Memory);
     };
     let Some(mut canceller) = cancellers.pop() else {
-        return Err(Fault::Failed);
+        return Err(NotTimed::Failed);
     };
     time_pairs(rt, pair, &opened, owners.as_mut_slice(), &mut canceller)
 }
@@ -134,7 +138,7 @@ pub fn pairs_on_slots<R: Clock + AllocGlobal>(
     rt: &R,
     pair: Pair,
     slots: u32,
-) -> Result<Done, Fault> {
+) -> Result<Done, NotTimed> {
     let mut taken = Duration::ZERO;
     for _ in 0..TABLES {
         taken = taken.saturating_add(time_table(rt, pair, slots)?);

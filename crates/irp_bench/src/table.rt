@@ -2,9 +2,9 @@
 
 use crate::blocks::read_and_judge;
 use crate::done::Done;
-use crate::fault::Fault;
 use crate::loads::{Calls, time_calls};
 use crate::locks::{acquire_and_release, add_and_subtract};
+use crate::not_timed::NotTimed;
 use crate::slots::{Pair, pairs_on_slots};
 use crate::texts::{Sample, Task, perform, record_sample};
 use std::rt::Clock;
@@ -138,7 +138,7 @@ fn run<R: Threads + Wait + Sync + Clock + AllocGlobal>(
     load: Load,
     number: u32,
     sample: Option<&Sample>,
-) -> Result<Done, Fault> {
+) -> Result<Done, NotTimed> {
     match load {
         Load::Lock => acquire_and_release(rt, number),
         Load::Word => add_and_subtract(rt, number),
@@ -147,11 +147,11 @@ fn run<R: Threads + Wait + Sync + Clock + AllocGlobal>(
         Load::Recorded(calls) => time_calls(rt, calls, number, true),
         Load::Text(task) => match sample {
             Some(sample) => perform(rt, rt.alloc(), task, sample),
-            None => Err(Fault::Failed),
+            None => Err(NotTimed::Failed),
         },
         Load::Blocks => match sample {
             Some(sample) => read_and_judge(rt, rt.alloc(), sample, number),
-            None => Err(Fault::Failed),
+            None => Err(NotTimed::Failed),
         },
     }
 }
@@ -162,7 +162,7 @@ fn take_turns<R: Threads + Wait + Sync + Clock + AllocGlobal>(
     row: Row,
     number: u32,
     sample: Option<&Sample>,
-) -> Result<(Done, Done), Fault> {
+) -> Result<(Done, Done), NotTimed> {
     let mut first = Done::NEVER;
     let mut second = Done::NEVER;
     for _ in 0..ROUNDS {
@@ -177,7 +177,7 @@ fn least<R: Threads + Wait + Sync + Clock + AllocGlobal>(
     rt: &R,
     row: Row,
     number: u32,
-) -> Result<(Done, Done), Fault> {
+) -> Result<(Done, Done), NotTimed> {
     let entries = match row.load {
         Load::Text(_) => number,
         Load::Blocks => ENTRIES,
@@ -191,7 +191,7 @@ fn least<R: Threads + Wait + Sync + Clock + AllocGlobal>(
 fn time_row<R: Threads + Wait + Sync + Clock + Eprint + AllocGlobal>(
     rt: &R,
     row: Row,
-) -> Result<(), Fault> {
+) -> Result<(), NotTimed> {
     let (name, beside) = (row.name, row.beside_name);
     for &number in row.numbers {
         let (first, second) = least(rt, row, number)?;
@@ -209,7 +209,7 @@ fn time_row<R: Threads + Wait + Sync + Clock + Eprint + AllocGlobal>(
 pub fn time_rows<R: Threads + Wait + Sync + Clock + Eprint + AllocGlobal>(
     rt: &R,
     asked: &str,
-) -> Result<(), Fault> {
+) -> Result<(), NotTimed> {
     let mut is_known = false;
     for row in TABLE.iter() {
         if row.word == asked {
@@ -217,5 +217,9 @@ pub fn time_rows<R: Threads + Wait + Sync + Clock + Eprint + AllocGlobal>(
             time_row(rt, *row)?;
         }
     }
-    if is_known { Ok(()) } else { Err(Fault::Usage) }
+    if is_known {
+        Ok(())
+    } else {
+        Err(NotTimed::Usage)
+    }
 }

@@ -8,12 +8,12 @@ ghost use Rattle.irp_transcript_reader.specs.Reading.{ReadsFrom, cut};
 ghost use Rattle.irp_transcript_writer.specs.Lines.{lines, text_of};
 
 use crate::done::Done;
-use crate::fault::Fault;
 use crate::loads::sends;
+use crate::not_timed::NotTimed;
 use crate::sessions::do_work;
+use irp_fast_reader::read_transcript;
 use irp_judge::{Verdict, check};
 use irp_shared::Transcript;
-use irp_text::read_transcript;
 use irp_transcript_writer::{Failed, Out, write_transcript};
 use serde_json::Value;
 use std::alloc::{AllocError, Global};
@@ -88,7 +88,7 @@ impl Out for TextOut {
 }
 
 /// The text of a transcript, with room for so many bytes from the beginning.
-fn text(alloc: Global, transcript: &Transcript, room: usize) -> Result<Vec<u8>, Fault>
+fn text(alloc: Global, transcript: &Transcript, room: usize) -> Result<Vec<u8>, NotTimed>
     ensures { IfOk result (λ text. text.items ≡ text_of (lines transcript.now)) }
 {
     let mut text = TextOut {
@@ -101,7 +101,7 @@ fn text(alloc: Global, transcript: &Transcript, room: usize) -> Result<Vec<u8>, 
 }
 
 /// The values of the text's first lines, and how many bytes these lines have.
-fn first_values(alloc: Global, text: &[u8]) -> Result<(Vec<Value>, u64), Fault> {
+fn first_values(alloc: Global, text: &[u8]) -> Result<(Vec<Value>, u64), NotTimed> {
     let mut values = Vec::new(alloc);
     let mut bytes: u64 = 0;
     for line in text.split_inclusive(|&byte| byte == b'\n') {
@@ -111,11 +111,11 @@ fn first_values(alloc: Global, text: &[u8]) -> Result<(Vec<Value>, u64), Fault> 
         serde_json::push(&mut values, Value::from_slice(alloc, line)?)?;
         bytes = bytes.saturating_add(line.len() as u64);
     }
-    Err(Fault::Failed)
+    Err(NotTimed::Failed)
 }
 
 /// A transcript of so many entries beside its text, and the values of the text's first lines.
-fn sample_of(alloc: Global, entries: u32, transcript: Transcript) -> Result<Sample, Fault>
+fn sample_of(alloc: Global, entries: u32, transcript: Transcript) -> Result<Sample, NotTimed>
     ensures { IfOk result (λ sample. sample.text.items ≡ text_of (lines sample.transcript)) }
 {
     let text = text(alloc, &transcript, 0)?;
@@ -139,16 +139,16 @@ fn sample_of(alloc: Global, entries: u32, transcript: Transcript) -> Result<Samp
 pub fn record_sample<R: Threads + Wait + Sync + Clock + AllocGlobal>(
     rt: &R,
     entries: u32,
-) -> Result<Sample, Fault>
+) -> Result<Sample, NotTimed>
     ensures { IfOk result (λ sample. sample.text.items ≡ text_of (lines sample.transcript)) }
 {
     let times = entries.saturating_sub(FIRST_CALLS) / 4;
     let work = sends(DEVICES, 1, times, Some(1));
     let Some(transcript) = do_work(rt, work)?.transcript else {
-        return Err(Fault::Failed);
+        return Err(NotTimed::Failed);
     };
     if transcript.entries().len() != entries as usize {
-        return Err(Fault::Failed);
+        return Err(NotTimed::Failed);
     }
     sample_of(rt.alloc(), entries, transcript)
 }
@@ -164,7 +164,7 @@ fn write_values(alloc: Global, values: &[Value]) -> Result<u64, AllocError> {
 }
 
 /// Reads the text as a transcript, which has to have all of its entries.
-fn read(alloc: Global, sample: &Sample) -> Result<Transcript, Fault>
+fn read(alloc: Global, sample: &Sample) -> Result<Transcript, NotTimed>
     ensures { IfOk result (λ made. ReadsFrom no_lines 0 (Ok made) (cut sample.now.text.items)
         × (length made.entries ≡ sample.now.entries)) }
 {
@@ -172,11 +172,11 @@ fn read(alloc: Global, sample: &Sample) -> Result<Transcript, Fault>
     if transcript.entries().len() == sample.entries as usize {
         return Ok(transcript);
     }
-    Err(Fault::Failed)
+    Err(NotTimed::Failed)
 }
 
 /// Reads the value of each line, drops it, and counts the lines.
-fn read_values(alloc: Global, text: &[u8]) -> Result<u64, Fault> {
+fn read_values(alloc: Global, text: &[u8]) -> Result<u64, NotTimed> {
     let mut lines: u64 = 0;
     for line in text.split_inclusive(|&byte| byte == b'\n') {
         let _value = Value::from_slice(alloc, line)?;
@@ -186,26 +186,26 @@ fn read_values(alloc: Global, text: &[u8]) -> Result<u64, Fault> {
 }
 
 /// Judges the transcript, which has to be legal, with all of its entries.
-fn judge(alloc: Global, sample: &Sample) -> Result<(), Fault>
+fn judge(alloc: Global, sample: &Sample) -> Result<(), NotTimed>
     ensures { IfOk result (λ _. IsVerdictOn sample.now.transcript (Legal sample.now.entries)) }
 {
     let entries = u64::from(sample.entries);
     if check(alloc, &sample.transcript)? == (Verdict::Legal { entries }) {
         return Ok(());
     }
-    Err(Fault::NotLegal)
+    Err(NotTimed::NotLegal)
 }
 
 /// Nothing, where a count is as it has to be.
-fn counted(count: u64, expected: u64) -> Result<Made, Fault> {
+fn counted(count: u64, expected: u64) -> Result<Made, NotTimed> {
     if count == expected {
         return Ok(Made::Nothing);
     }
-    Err(Fault::Failed)
+    Err(NotTimed::Failed)
 }
 
 /// Does this with the sample.
-fn work(alloc: Global, task: Task, sample: &Sample) -> Result<Made, Fault> {
+fn work(alloc: Global, task: Task, sample: &Sample) -> Result<Made, NotTimed> {
     match task {
         Task::Write => Ok(Made::Text(text(alloc, &sample.transcript, sample.text.len())?)),
         Task::WriteValues => counted(write_values(alloc, sample.values.as_slice())?, sample.bytes),
@@ -227,7 +227,7 @@ pub fn perform<R: Clock>(
     alloc: Global,
     task: Task,
     sample: &Sample,
-) -> Result<Done, Fault> {
+) -> Result<Done, NotTimed> {
     let start = Instant::now(rt)?;
     let made = work(alloc, task, sample)?;
     let taken = start.elapsed(rt);

@@ -3,7 +3,7 @@ use Rattle.std.proofs.Common.{ℕ, suc, ◌≡◌, ◌⊎◌, inl, inr, refl, sy
 use Rattle.std.specs.Prelude.{Result, Ok, Err, IfOk, codes}
 use Rattle.irp_condition.specs.declared.condition.Condition.{Condition}
 use Rattle.irp_condition.specs.declared.fault.Expected.TheVariants.{Close, Shallower, Joint as Joint'}
-use Rattle.irp_condition.specs.declared.fault.Fault.{Fault}
+use Rattle.irp_condition.specs.declared.fault.ConditionFault.{ConditionFault}
 use Rattle.irp_condition.specs.declared.fault.Unread.{Unread}
 use Rattle.irp_condition.specs.declared.fault.Unread.TheVariants as unread
 use Rattle.irp_condition.specs.declared.naming.Joint.{Joint}
@@ -163,7 +163,7 @@ either_way (inr (inl two)) this that other = absurd (that two)
 either_way (inr (inr three)) this that other = absurd (other three)
 
 -- what is said as far as it goes doesn't break
-said_whole : {reader : Reader} {level : Level} {depth : ℕ} {tokens rest : List Token} {formula : Formula} {fault : Fault} → Breaks reader level depth tokens fault
+said_whole : {reader : Reader} {level : Level} {depth : ℕ} {tokens rest : List Token} {formula : Formula} {fault : ConditionFault} → Breaks reader level depth tokens fault
     → Parse reader (at level) depth tokens formula rest → Stops level rest → ⊥
 said_whole (not_compared no_not no_open misses) (one_compared is) stops = cc
 said_whole (not_compared no_not no_open misses) (one_negated word part) stops = cc
@@ -231,11 +231,11 @@ starts_with : {reader : Reader} {joint : Joint} {depth : ℕ} {formula : Formula
     → Parse reader (at (joined joint)) depth tokens formula middle → behind_word (word_of joint) middle ≡ Some next → Continues reader joint depth tokens
 starts_with (first {behind = behind} {one = one} item chain) word = record { right = one; behind = behind; item = item; stops = stops_within chain word }
 
-fault_is : {one two : Fault} → ◌≡◌ {A = Found (Formula × List Token)} (missing one) (missing two) → one ≡ two
+fault_is : {one two : ConditionFault} → ◌≡◌ {A = Found (Formula × List Token)} (missing one) (missing two) → one ≡ two
 fault_is same = cc
 
 -- tokens break in one place
-one_fault : {reader : Reader} {level : Level} {depth : ℕ} {tokens : List Token} {one two : Fault} → Breaks reader level depth tokens one
+one_fault : {reader : Reader} {level : Level} {depth : ℕ} {tokens : List Token} {one two : ConditionFault} → Breaks reader level depth tokens one
     → Breaks reader level depth tokens two → one ≡ two
 one_fault (not_compared no_not no_open misses) (not_compared also_not also_open lacks) = fault_is (sym misses ∙ lacks)
 one_fault (not_compared no_not no_open misses) (deep_not word) = cc
@@ -285,14 +285,14 @@ not_nothing : (token : Token) (rest : List Token) → token ∷ rest ≡ [] → 
 not_nothing token rest same = let long = ap length same in omega (arith, long)
 
 -- a text that says a condition doesn't break
-pub says_or_breaks : (scope : Scope) (text : List ℕ) (fault : Fault) (formula : Formula) → TextBreaks scope text fault → TextSays scope text formula → ⊥
+pub says_or_breaks : (scope : Scope) (text : List ℕ) (fault : ConditionFault) (formula : Formula) → TextBreaks scope text fault → TextSays scope text formula → ⊥
 says_or_breaks scope text fault formula (within breaks) says = said_whole breaks (parsed says) no_more
 says_or_breaks scope text fault formula (more_stands {token = token} {rest = rest} reads stops) says =
     let same = once (parsed reads) stops (parsed says) no_more in
     not_nothing token rest (ap (λ (read : Formula × List Token). read.1) same)
 
 -- a text breaks in one place
-pub breaks_once : (scope : Scope) (text : List ℕ) (one two : Fault) → TextBreaks scope text one → TextBreaks scope text two → one ≡ two
+pub breaks_once : (scope : Scope) (text : List ℕ) (one two : ConditionFault) → TextBreaks scope text one → TextBreaks scope text two → one ≡ two
 breaks_once scope text one two (within breaks) (within cracks) = one_fault breaks cracks
 breaks_once scope text one two (within breaks) (more_stands reads stops) = absurd (said_whole breaks (parsed reads) stops)
 breaks_once scope text one two (more_stands reads stops) (within cracks) = absurd (said_whole cracks (parsed reads) stops)
@@ -301,7 +301,7 @@ breaks_once scope text one two (more_stands reads stops) (more_stands says halts
 
 -- so the fault of a text is what is answered of it
 pub gives_fault : (scope : Scope) (text : List ℕ) (result : Result Condition Unread) → IfOk result (λ condition. TextSays scope text (formula_of condition))
-    → IfFault result (λ fault. TextBreaks scope text fault) → (fault : Fault) → TextBreaks scope text fault → Gives formula_of result (missing fault)
+    → IfFault result (λ fault. TextBreaks scope text fault) → (fault : ConditionFault) → TextBreaks scope text fault → Gives formula_of result (missing fault)
 gives_fault scope text (Ok condition) said broken fault breaks = absurd (says_or_breaks scope text fault (formula_of condition) breaks said)
 gives_fault scope text (Err (unread.Fault other)) said broken fault breaks = ap missing (breaks_once scope text fault other breaks broken)
 gives_fault scope text (Err unread.NoMemory) said broken fault breaks = tt

@@ -10,7 +10,7 @@ use Rattle.irp_condition.specs.declared.condition.Fact.{Fact}
 use Rattle.irp_condition.specs.declared.condition.Fact.TheVariants as fact
 use Rattle.irp_condition.specs.declared.condition.Term.TheVariants as term
 use Rattle.irp_condition.specs.declared.fault.Expected.{Expected}
-use Rattle.irp_condition.specs.declared.fault.Fault.{Fault}
+use Rattle.irp_condition.specs.declared.fault.ConditionFault.{ConditionFault}
 use Rattle.irp_condition.specs.declared.naming.Joint.{Joint}
 use Rattle.irp_condition.specs.declared.naming.Joint.TheVariants.{And, Or}
 use Rattle.irp_condition.specs.declared.naming.Name.{Name}
@@ -201,7 +201,7 @@ read_subject reader of_name.Deleted tokens read proper is = read_device reader t
 read_subject reader of_name.Held tokens read proper is = let low = read_below reader (codes "lock") reader.scope.locks _ tokens read proper is in ((low.0, low.1), low.2)
 read_subject reader of_name.Removing tokens read proper is = let low = read_below reader (codes "lock") reader.scope.locks _ tokens read proper is in ((low.0, low.1), low.2)
 
-chosen : {A : Type 0} (test : Bool) (fault : Fault) (read answer : A) → (if test then missing fault else found read) ≡ found answer → (test ≡ false) × (read ≡ answer)
+chosen : {A : Type 0} (test : Bool) (fault : ConditionFault) (read answer : A) → (if test then missing fault else found read) ≡ found answer → (test ≡ false) × (read ≡ answer)
 chosen true fault read answer is = cc
 chosen false fault read answer is = (refl, found_one is)
 
@@ -282,7 +282,7 @@ read_sign (token ∷ tokens) read proper is =
     kept_read true read answer is = is
     kept_read false read answer is = cc
 
-whether : (test : Bool) (here answer : Formula × List Token) (fault : Fault) → (if test then found here else missing fault) ≡ found answer → (test ≡ true) × (here ≡ answer)
+whether : (test : Bool) (here answer : Formula × List Token) (fault : ConditionFault) → (if test then found here else missing fault) ≡ found answer → (test ≡ true) × (here ≡ answer)
 whether true here answer fault is = (refl, found_one is)
 whether false here answer fault is = cc
 

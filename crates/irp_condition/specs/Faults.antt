@@ -1,7 +1,7 @@
 -- What a reader finds at the front of a condition's tokens, or where it finds something else.
 use Rattle.std.specs.Prelude.{ℕ, ◌≡◌, List, [], ◌∷◌, Option, Some, None, Result, Ok, Err}
 use Rattle.irp_condition.specs.declared.fault.Expected.{Expected}
-use Rattle.irp_condition.specs.declared.fault.Fault.{Fault}
+use Rattle.irp_condition.specs.declared.fault.ConditionFault.{ConditionFault}
 use Rattle.irp_condition.specs.declared.fault.Unread.{Unread}
 use Rattle.irp_condition.specs.declared.fault.Unread.TheVariants as unread
 use Rattle.irp_condition.specs.declared.reading.Reader.{Reader}
@@ -13,13 +13,13 @@ column_of end [] = end
 column_of end (token ∷ rest) = token.column
 
 -- something else was expected where these tokens begin
-abbrev pub fault_at : Reader → Expected → List Token → Fault
+abbrev pub fault_at : Reader → Expected → List Token → ConditionFault
 fault_at reader expected tokens = record { column = column_of reader.end tokens; expected = expected }
 
 -- what was looked for, or where it is missing
 pub data Found (A : Type 0) : Type 0 where
   found : A → Found A
-  missing : Fault → Found A
+  missing : ConditionFault → Found A
 
 -- find the one, and then what follows from it; what is missing first is missing
 infixl 10 ◌>>◌
@@ -44,7 +44,7 @@ Gives view (Err (unread.Fault fault)) read = read ≡ missing fault
 Gives view (Err unread.NoMemory) read = Unit {0}
 
 -- this holds of the fault, if one was answered
-abbrev pub IfFault : {A : Type 0} → Result A Unread → (Fault → Type 0) → Type 0
+abbrev pub IfFault : {A : Type 0} → Result A Unread → (ConditionFault → Type 0) → Type 0
 IfFault (Ok answer) holds = Unit {0}
 IfFault (Err (unread.Fault fault)) holds = holds fault
 IfFault (Err unread.NoMemory) holds = Unit {0}

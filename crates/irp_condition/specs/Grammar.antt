@@ -6,7 +6,7 @@ use Rattle.irp_condition.specs.Naming.{word_of}
 use Rattle.irp_condition.specs.Reading.{behind_word, behind_open, behind_close, compared_at}
 use Rattle.irp_condition.specs.Tokens.{tokens_below}
 use Rattle.irp_condition.specs.declared.fault.Expected.TheVariants.{Close, Shallower, Joint as Joint'}
-use Rattle.irp_condition.specs.declared.fault.Fault.{Fault}
+use Rattle.irp_condition.specs.declared.fault.ConditionFault.{ConditionFault}
 use Rattle.irp_condition.specs.declared.naming.Joint.{Joint}
 use Rattle.irp_condition.specs.declared.naming.Joint.TheVariants.{And, Or}
 use Rattle.irp_condition.specs.declared.reading.Reader.{Reader}
@@ -53,27 +53,27 @@ Stops (joined Or) rest = (behind_word (codes "and") rest ≡ None) × (behind_wo
 -- first part of a comparison that is missing. `deep_not`, `deep_open`: a `not` or a parenthesis, where no more may stand
 -- within each other. `in_not`, `in_parentheses`: what stands within. `unclosed`: the closing parenthesis, behind all the
 -- conditions within. `in_first`: the first condition of several. `in_next`: the one behind a joint's word
-pub data Breaks (reader : Reader) : Level → ℕ → List Token → Fault → Type 0 where
-  not_compared : {depth : ℕ} {tokens : List Token} {fault : Fault}
+pub data Breaks (reader : Reader) : Level → ℕ → List Token → ConditionFault → Type 0 where
+  not_compared : {depth : ℕ} {tokens : List Token} {fault : ConditionFault}
       → behind_word (codes "not") tokens ≡ None → behind_open tokens ≡ None → compared_at reader tokens ≡ missing fault
       → Breaks reader single depth tokens fault
   deep_not : {tokens inner : List Token}
       → behind_word (codes "not") tokens ≡ Some inner → Breaks reader single 0 tokens (fault_at reader Shallower tokens)
   deep_open : {tokens inner : List Token}
       → behind_open tokens ≡ Some inner → Breaks reader single 0 tokens (fault_at reader Shallower tokens)
-  in_not : {depth : ℕ} {tokens inner : List Token} {fault : Fault}
+  in_not : {depth : ℕ} {tokens inner : List Token} {fault : ConditionFault}
       → behind_word (codes "not") tokens ≡ Some inner → Breaks reader single depth inner fault
       → Breaks reader single (suc depth) tokens fault
-  in_parentheses : {depth : ℕ} {tokens inner : List Token} {fault : Fault}
+  in_parentheses : {depth : ℕ} {tokens inner : List Token} {fault : ConditionFault}
       → behind_open tokens ≡ Some inner → Breaks reader (joined Or) depth inner fault
       → Breaks reader single (suc depth) tokens fault
   unclosed : {depth : ℕ} {tokens inner behind : List Token} {formula : Formula}
       → behind_open tokens ≡ Some inner → Says reader (joined Or) depth inner formula behind
       → Stops (joined Or) behind → behind_close behind ≡ None
       → Breaks reader single (suc depth) tokens (fault_at reader Close behind)
-  in_first : {joint : Joint} {depth : ℕ} {tokens : List Token} {fault : Fault}
+  in_first : {joint : Joint} {depth : ℕ} {tokens : List Token} {fault : ConditionFault}
       → Breaks reader (inside joint) depth tokens fault → Breaks reader (joined joint) depth tokens fault
-  in_next : {joint : Joint} {depth : ℕ} {tokens behind next : List Token} {left : Formula} {fault : Fault}
+  in_next : {joint : Joint} {depth : ℕ} {tokens behind next : List Token} {left : Formula} {fault : ConditionFault}
       → Says reader (joined joint) depth tokens left behind → behind_word (word_of joint) behind ≡ Some next
       → Breaks reader (inside joint) depth next fault → Breaks reader (joined joint) depth tokens fault
 
@@ -88,8 +88,8 @@ TextSays scope text formula =
 
 -- The text stops being a condition at this fault: in its conditions, or behind them, where `and`, `or` or the end is
 -- expected
-pub data TextBreaks (scope : Scope) (text : List ℕ) : Fault → Type 0 where
-  within : {fault : Fault}
+pub data TextBreaks (scope : Scope) (text : List ℕ) : ConditionFault → Type 0 where
+  within : {fault : ConditionFault}
       → Breaks (reader_of scope text) (joined Or) 32 (tokens_below text (length text)) fault
       → TextBreaks scope text fault
   behind : {token : Token} {rest : List Token} {formula : Formula}

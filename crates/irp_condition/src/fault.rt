@@ -58,12 +58,12 @@ impl fmt::Display for Expected {
 
 /// Where a text stops being a condition: the column of a byte, from 1, and what was expected there.
 #[derive(Clone, Copy)]
-pub struct Fault {
+pub struct ConditionFault {
     pub column: usize,
     pub expected: Expected,
 }
 
-impl fmt::Display for Fault {
+impl fmt::Display for ConditionFault {
     fn fmt<W: fmt::Write>(&self, f: &mut fmt::Formatter<W>) -> fmt::Result {
         write!(f, "column {}: expected {}", self.column, self.expected)
     }
@@ -72,7 +72,7 @@ impl fmt::Display for Fault {
 /// Why no condition was read.
 #[derive(Clone, Copy)]
 pub enum Unread {
-    Fault(Fault),
+    Fault(ConditionFault),
     NoMemory,
 }
 

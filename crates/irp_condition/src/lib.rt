@@ -16,7 +16,7 @@ mod writing;
 
 pub use condition::{Comparison, Condition, Fact, Term};
 pub use facts::{Facts, Packet, Told};
-pub use fault::{Expected, Fault, Unread};
+pub use fault::{ConditionFault, Expected, Unread};
 pub use holding::{holds, told_value};
 pub use parsing::read_condition;
 pub use scope::Scope;

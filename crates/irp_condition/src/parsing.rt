@@ -1,7 +1,7 @@
 //! Reading a condition from its text. Source: this project's own rules.
 
 ghost use Rattle.std.specs.Prelude.{◌≡◌, ◌<◌, IfOk, MatchResult, length};
-ghost use Rattle.irp_condition.specs.declared.fault.Fault.{Fault};
+ghost use Rattle.irp_condition.specs.declared.fault.ConditionFault.{ConditionFault};
 ghost use Rattle.irp_condition.specs.Faults.{Gives, IfFault, found, missing};
 ghost use Rattle.irp_condition.specs.Formulas.{Formula, formula_of, joins, no};
 ghost use Rattle.irp_condition.specs.Grammar.{TextBreaks, TextSays, inside, joined, single};
@@ -122,7 +122,7 @@ pub fn read_condition(alloc: Global, text: &str, scope: Scope<'_>) -> Result<Con
     ensures whole { (formula : Formula) → TextSays scope.entry text.now formula
         → Gives formula_of result (found formula) }
     ensures broken { IfFault result (λ fault. TextBreaks scope.entry text.now fault) }
-    ensures once { (fault : Fault) → TextBreaks scope.entry text.now fault
+    ensures once { (fault : ConditionFault) → TextBreaks scope.entry text.now fault
         → Gives formula_of result (missing fault) }
 {
     let tokens = tokens_of(alloc, text.as_bytes())?;

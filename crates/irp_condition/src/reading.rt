@@ -8,7 +8,7 @@ ghost use Rattle.irp_condition.specs.Faults.{Gives, fault_at as spec_fault_at};
 ghost use Rattle.irp_condition.specs.Reading.{with_rest};
 
 use crate::condition::{Comparison, Condition, Fact, Term};
-use crate::fault::{Expected, Fault, Unread};
+use crate::fault::{ConditionFault, Expected, Unread};
 use crate::naming::{Name, Sort, comparison_of, name_of, needs_replies, sort_of};
 use crate::scope::Scope;
 use crate::tokens::{Kind, Token};
@@ -37,7 +37,7 @@ pub fn fault_at(reader: Reader<'_>, tokens: &[Token], expected: Expected) -> Unr
         Some(token) => token.column,
         None => reader.end,
     };
-    Unread::Fault(Fault { column, expected })
+    Unread::Fault(ConditionFault { column, expected })
 }
 
 /// A word, and what stands behind it.

@@ -3,7 +3,7 @@
 use crate::act::Act;
 use crate::names::Kind;
 use crate::written::Written;
-use irp_script_reader::{Fault, ScriptRefusal, Section};
+use irp_script_reader::{MemberFault, ScriptRefusal, Section};
 
 /// What was expected in the place of a word (this project's own rule).
 #[derive(Clone, Copy)]
@@ -222,30 +222,31 @@ fn reason(refusal: ScriptRefusal) -> &'static str {
 }
 
 /// The same for a fault in a section.
-fn reason_at(fault: Fault, section: Section) -> &'static str {
+fn reason_at(fault: MemberFault, section: Section) -> &'static str {
     match (fault, section) {
-        (Fault::BadField, Section::Seats) => "1 to 64 seats",
-        (Fault::BadField, Section::Locks) => "1 to 64 remove locks",
-        (Fault::BadField, Section::Slots) => "0 to 64 cancel slots",
-        (Fault::BadField, Section::Dispatches) => "a plan of this form: form 1 has no hold_slot",
-        (Fault::BadField, _) => "a step that the script may have",
-        (Fault::RuleBroken, Section::Completions) => {
+        (MemberFault::BadField, Section::Seats) => "1 to 64 seats",
+        (MemberFault::BadField, Section::Locks) => "1 to 64 remove locks",
+        (MemberFault::BadField, Section::Slots) => "0 to 64 cancel slots",
+        (MemberFault::BadField, Section::Dispatches) =>
+            "a plan of this form: form 1 has no hold_slot",
+        (MemberFault::BadField, _) => "a step that the script may have",
+        (MemberFault::RuleBroken, Section::Completions) => {
             "behaviours of the rule: watch continues twice, change continues or replaces, \
              keeper keeps twice, keep_on_error continues and then keeps; \
              what replaces is a status that completes"
         }
-        (Fault::RuleBroken, _) => {
+        (MemberFault::RuleBroken, _) => {
             "a finish with a status that completes, so neither STATUS_PENDING nor \
              STATUS_MORE_PROCESSING_REQUIRED, and a forward with a watch"
         }
-        (Fault::NoRoutine, _) => "a routine that the text has",
-        (Fault::BadDispatch, _) => {
+        (MemberFault::NoRoutine, _) => "a routine that the text has",
+        (MemberFault::BadDispatch, _) => {
             "dispatches that the text has, and majors up to IRP_MJ_PNP, each once"
         }
-        (Fault::TooMany, Section::Completions) => "at most 256 completion routines of a rule",
-        (Fault::TooMany, Section::Cancels) => "at most 256 cancel routines",
-        (Fault::TooMany, Section::Dispatches) => "at most 256 dispatches",
-        (Fault::TooMany, Section::Drivers) => "at most 64 drivers",
-        (Fault::TooMany, _) => "at most 4,096 labels",
+        (MemberFault::TooMany, Section::Completions) => "at most 256 completion routines of a rule",
+        (MemberFault::TooMany, Section::Cancels) => "at most 256 cancel routines",
+        (MemberFault::TooMany, Section::Dispatches) => "at most 256 dispatches",
+        (MemberFault::TooMany, Section::Drivers) => "at most 64 drivers",
+        (MemberFault::TooMany, _) => "at most 4,096 labels",
     }
 }

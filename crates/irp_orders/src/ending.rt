@@ -6,7 +6,7 @@ ghost use Rattle.irp_orders.specs.Ending.{has_line, status_of};
 
 use crate::asked::Unasked;
 use crate::input::StreamFault;
-use irp_condition::{Fault, Unread};
+use irp_condition::{ConditionFault, Unread};
 use irp_listing::Unwritten;
 use irp_machine::{NotFound, NotMade};
 use irp_script_reader::{ScriptFault, ScriptRefusal};
@@ -61,7 +61,7 @@ pub enum Ending {
     /// `--right` stands beside a word that asks for something else: status 4.
     NotBesideRight,
     /// The condition isn't one: status 4.
-    RefusedCondition(Fault),
+    RefusedCondition(ConditionFault),
     /// There are only so many outcomes: status 4.
     NoOutcome(u64),
     /// The file of this name can't be opened: status 5.

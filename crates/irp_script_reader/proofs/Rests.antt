@@ -9,7 +9,7 @@ use Rattle.irp_types.specs.declared.names.DispatchId.{DispatchId}
 use Rattle.irp_script_reader.specs.Labels.{place_of}
 use Rattle.irp_script_reader.specs.Plans.{has_major, is_driver, is_handler}
 use Rattle.irp_script_reader.specs.Taking.{members_at, told}
-use Rattle.irp_script_reader.specs.declared.{refusal.Fault.Fault, refusal.Section.Section}
+use Rattle.irp_script_reader.specs.declared.{refusal.MemberFault.MemberFault, refusal.Section.Section}
 
 pub handlers_at : (dispatches : ℕ) (handlers : List (ℕ × DispatchId)) (i : ℕ) (handler : ℕ × DispatchId) → i < length handlers
     → is_driver dispatches (drop i handlers)
@@ -17,7 +17,7 @@ pub handlers_at : (dispatches : ℕ) (handlers : List (ℕ × DispatchId)) (i : 
 handlers_at dispatches handlers i handler h = at_drop_more (is_driver dispatches) handlers i handler h
 
 -- the list with the next member taken
-pub members_more : {L : Type 0} (takes : L → Data → Result L Fault) (section : Section) (values : List Value) (i : ℕ) (list : L) (value : Value)
+pub members_more : {L : Type 0} (takes : L → Data → Result L MemberFault) (section : Section) (values : List Value) (i : ℕ) (list : L) (value : Value)
     → i < length values → value ≡ get_or values i value
     → members_at takes section i list (items_view (drop i values))
     ≡ told section i (λ next. members_at takes section (i + 1) next (items_view (drop (i + 1) values))) (takes list (view value))

@@ -35,11 +35,11 @@ use Rattle.irp_script_reader.specs.Taking.{◌>>=◌, Tells, if_list, list_at, m
 use Rattle.irp_script_reader.specs.declared.condition.Condition.{Condition}
 use Rattle.irp_script_reader.specs.declared.{act.Step.Step, lists.Cancels.Cancels, lists.Completions.Completions}
 use Rattle.irp_script_reader.specs.declared.{lists.Dispatches.Dispatches, lists.Drivers.Drivers, lists.Steps.Steps}
-use Rattle.irp_script_reader.specs.declared.{refusal.Fault.Fault, refusal.ScriptFault.ScriptFault}
+use Rattle.irp_script_reader.specs.declared.{refusal.MemberFault.MemberFault, refusal.ScriptFault.ScriptFault}
 use Rattle.irp_script_reader.specs.declared.{refusal.ScriptRefusal.ScriptRefusal, refusal.Section.Section}
 use Rattle.irp_script_reader.specs.declared.{script.CompletionRoutine.CompletionRoutine, script.ScriptForm.ScriptForm}
 use Rattle.irp_script_reader.specs.declared.{script.ScriptParts.ScriptParts, read.FormKey.FormKey}
-use Rattle.irp_script_reader.specs.declared.refusal.Fault.TheVariants.{BadField, RuleBroken, NoRoutine, BadDispatch, TooMany}
+use Rattle.irp_script_reader.specs.declared.refusal.MemberFault.TheVariants.{BadField, RuleBroken, NoRoutine, BadDispatch, TooMany}
 use Rattle.irp_script_reader.specs.declared.refusal.ScriptFault.TheVariants.{Refused, NoMemory}
 use Rattle.irp_script_reader.specs.declared.refusal.ScriptRefusal.TheVariants.{At}
 use Rattle.irp_script_reader.specs.declared.refusal.Section.TheVariants as section
@@ -57,17 +57,17 @@ then_from : {A B E : Type 0} (first : Result A E) (next : A → Result B E) (Q :
 then_from (Ok value) next Q P has goes = goes value has
 then_from (Err fault) next Q P has goes = tt
 
-then_if : {B : Type 0} (holds : Bool) (fault : Fault) (next : Unit {0} → Result B Fault) (P : B → Type 0)
+then_if : {B : Type 0} (holds : Bool) (fault : MemberFault) (next : Unit {0} → Result B MemberFault) (P : B → Type 0)
     → (holds ≡ true → IfOk (next tt) P) → IfOk (unless holds fault >>= next) P
 then_if true fault next P goes = goes refl
 then_if false fault next P goes = tt
 
-told_kept : {L : Type 0} (part : Section) (index : ℕ) (rest : L → Result L ScriptRefusal) (taken : Result L Fault) (P : L → Type 0)
+told_kept : {L : Type 0} (part : Section) (index : ℕ) (rest : L → Result L ScriptRefusal) (taken : Result L MemberFault) (P : L → Type 0)
     → IfOk taken P → ((list : L) → P list → IfOk (rest list) P) → IfOk (told part index rest taken) P
 told_kept part index rest (Ok list) P has goes = goes list has
 told_kept part index rest (Err fault) P has goes = tt
 
-members_kept : {L : Type 0} (takes : L → Data → Result L Fault) (part : Section) (P : L → Type 0)
+members_kept : {L : Type 0} (takes : L → Data → Result L MemberFault) (part : Section) (P : L → Type 0)
     → ((list : L) (form : Data) → P list → IfOk (takes list form) P)
     → (index : ℕ) (list : L) (members : Items) → P list → IfOk (members_at takes part index list members) P
 members_kept takes part P each index list no_items has = has
@@ -75,13 +75,13 @@ members_kept takes part P each index list (item first others) has =
     told_kept part index (λ next. members_at takes part (index + 1) next others) (takes list first) P (each list first has)
     (λ next there. members_kept takes part P each (index + 1) next others there)
 
-given_kept : {L : Type 0} (takes : L → Data → Result L Fault) (part : Section) (P : L → Type 0)
+given_kept : {L : Type 0} (takes : L → Data → Result L MemberFault) (part : Section) (P : L → Type 0)
     → ((list : L) (form : Data) → P list → IfOk (takes list form) P)
     → (empty : L) (members : Option Items) → P empty → IfOk (if_list takes part empty members) P
 given_kept takes part P each empty None has = tt
 given_kept takes part P each empty (Some members) has = members_kept takes part P each 0 empty members has
 
-list_kept : {L : Type 0} (takes : L → Data → Result L Fault) (part : Section) (P : L → Type 0)
+list_kept : {L : Type 0} (takes : L → Data → Result L MemberFault) (part : Section) (P : L → Type 0)
     → ((list : L) (form : Data) → P list → IfOk (takes list form) P)
     → (key : List ℕ) (empty : L) (whole : Data) → P empty → IfOk (list_at takes part key empty whole) P
 unfolding list_at

@@ -8,9 +8,9 @@ use Rattle.serde_json.specs.Data.{Data, string}
 use Rattle.serde_json.specs.Find.{get, as_str}
 use Rattle.irp_forms.specs.Parts.{◌>>=◌}
 use Rattle.irp_forms.specs.Values.{irp_at}
-use Rattle.irp_script_reader.specs.declared.{act.Named.Named, refusal.Fault.Fault}
+use Rattle.irp_script_reader.specs.declared.{act.Named.Named, refusal.MemberFault.MemberFault}
 use Rattle.irp_script_reader.specs.declared.act.Named.TheVariants as named
-use Rattle.irp_script_reader.specs.declared.refusal.Fault.TheVariants.{TooMany}
+use Rattle.irp_script_reader.specs.declared.refusal.MemberFault.TheVariants.{TooMany}
 
 -- the most labels of a script
 abbrev pub most_labels : ℕ
@@ -30,7 +30,7 @@ place_of label [] = 0
 place_of label (first ∷ others) = if bytes_eq first label then 0 else suc (place_of label others)
 
 -- the labels, once this one is named
-unfoldable pub with_label : List (List ℕ) → List ℕ → Result (List (List ℕ)) Fault
+unfoldable pub with_label : List (List ℕ) → List ℕ → Result (List (List ℕ)) MemberFault
 with_label labels label =
     if nat_lt (place_of label labels) (length labels) then Ok labels else
     (if nat_lt (length labels) most_labels then Ok (labels ++ label ∷ []) else Err TooMany)
@@ -49,7 +49,7 @@ place_among labels None = 0
 place_among labels (Some label) = place_of label labels
 
 -- the labels, once a step names its own
-abbrev pub with_labels : List (List ℕ) → Option (List ℕ) → Result (List (List ℕ)) Fault
+abbrev pub with_labels : List (List ℕ) → Option (List ℕ) → Result (List (List ℕ)) MemberFault
 with_labels labels None = Ok labels
 with_labels labels (Some label) = with_label labels label
 

@@ -14,12 +14,12 @@ use Rattle.irp_script_reader.specs.Routines.{completion_at, counted, obeys_its_r
 use Rattle.irp_script_reader.specs.Taking.{◌>>=◌, unless, with_item}
 use Rattle.irp_script_reader.specs.declared.{act.Step.Step, lists.Cancels.Cancels, lists.Completions.Completions}
 use Rattle.irp_script_reader.specs.declared.{lists.Dispatches.Dispatches, lists.Drivers.Drivers, lists.Steps.Steps}
-use Rattle.irp_script_reader.specs.declared.refusal.Fault.{Fault}
-use Rattle.irp_script_reader.specs.declared.refusal.Fault.TheVariants.{BadField, RuleBroken, NoRoutine}
-use Rattle.irp_script_reader.specs.declared.refusal.Fault.TheVariants.{BadDispatch, TooMany}
+use Rattle.irp_script_reader.specs.declared.refusal.MemberFault.{MemberFault}
+use Rattle.irp_script_reader.specs.declared.refusal.MemberFault.TheVariants.{BadField, RuleBroken, NoRoutine}
+use Rattle.irp_script_reader.specs.declared.refusal.MemberFault.TheVariants.{BadDispatch, TooMany}
 
 -- a completion routine, whose behaviours are those of its rule, and of which there is room for one more
-unfoldable pub takes_completion : Completions → Data → Result Completions Fault
+unfoldable pub takes_completion : Completions → Data → Result Completions MemberFault
 takes_completion list form = do
   routine ← ok_or (completion_at form) BadField
   obeys ← unless (obeys_its_rule routine) RuleBroken
@@ -27,14 +27,14 @@ takes_completion list form = do
   Ok (record { routines = with_item list.routines routine; counts = counts })
 
 -- what a cancel routine answers, where there is room for one more
-unfoldable pub takes_cancel : Cancels → Data → Result Cancels Fault
+unfoldable pub takes_cancel : Cancels → Data → Result Cancels MemberFault
 takes_cancel list form = do
   answer ← ok_or (cancel_answer_at form) BadField
   count ← ok_or (one_more list.counts.cancel) TooMany
   Ok (record { answers = with_item list.answers answer; counts = record list.counts { cancel = count } })
 
 -- a plan that the form has, which is sound and names no routine that isn't there
-unfoldable pub takes_dispatch : Dispatches → Data → Result Dispatches Fault
+unfoldable pub takes_dispatch : Dispatches → Data → Result Dispatches MemberFault
 takes_dispatch list form = do
   plan ← ok_or (plan_at form) BadField
   may ← unless (may_plan list.form plan) BadField
@@ -44,7 +44,7 @@ takes_dispatch list form = do
   Ok (record { form = list.form; known = list.known; plans = with_item list.plans plan })
 
 -- a driver's major function codes and dispatches
-unfoldable pub takes_driver : Drivers → Data → Result Drivers Fault
+unfoldable pub takes_driver : Drivers → Data → Result Drivers MemberFault
 takes_driver list form = do
   handlers ← ok_or (list_at handler_at form) BadField
   there ← unless (is_driver list.dispatches handlers) BadDispatch
@@ -60,7 +60,7 @@ may_have list step =
     && (may_do list.form list.seats step.seat step.act && may_hang list.form list.steps step.seat step.condition))
 
 -- a step, and the label that it names
-unfoldable pub takes_step : Steps → Data → Result Steps Fault
+unfoldable pub takes_step : Steps → Data → Result Steps MemberFault
 takes_step list form = do
   step ← ok_or (step_at (place_among list.labels (label_at form)) form) BadField
   may ← unless (may_have list step) BadField

@@ -20,7 +20,7 @@ use Rattle.irp_script_reader.specs.declared.script.{CompletionRoutine.Completion
 use Rattle.irp_script_reader.specs.declared.script.{ScriptForm.ScriptForm}
 use Rattle.irp_script_reader.specs.declared.script.ScriptParts.{ScriptParts}
 use Rattle.irp_script_reader.specs.declared.read.FormKey.TheVariants as keys
-use Rattle.irp_script_reader.specs.declared.refusal.Fault.TheVariants.{BadField}
+use Rattle.irp_script_reader.specs.declared.refusal.MemberFault.TheVariants.{BadField}
 use Rattle.irp_script_reader.specs.declared.refusal.ScriptFault.TheVariants.{Refused, NoMemory}
 use Rattle.irp_script_reader.specs.declared.refusal.ScriptRefusal.TheVariants.{TooLong, NotJson, BadForm, At}
 use Rattle.irp_script_reader.specs.declared.refusal.Section.TheVariants as section

@@ -8,7 +8,7 @@ ghost use Rattle.irp_script_reader.specs.Labels as spec;
 ghost use Rattle.irp_script_reader.specs.Taking.{Gives};
 
 use crate::act::Named;
-use crate::refusal::Fault;
+use crate::refusal::MemberFault;
 use crate::taking::Stop;
 use irp_forms::FromValue;
 use serde_json::Value;
@@ -98,7 +98,7 @@ impl Labels {
             return Ok(self);
         }
         if self.len() >= MOST_LABELS {
-            return Err(Stop::Fault(Fault::TooMany));
+            return Err(Stop::MemberFault(MemberFault::TooMany));
         }
         let Ok(text) = String::from_str(alloc, label) else {
             return Err(Stop::NoMemory);

@@ -19,5 +19,5 @@ pub use act::{Named, Step, StepAct};
 pub use condition::{AnswerWord, Condition, ExpectedAnswer};
 pub use labels::Labels;
 pub use read::read_script;
-pub use refusal::{Fault, ScriptFault, ScriptRefusal, Section};
+pub use refusal::{MemberFault, ScriptFault, ScriptRefusal, Section};
 pub use script::{Behaviour, CompletionRoutine, Script, ScriptForm, ScriptParts};

@@ -7,13 +7,13 @@ ghost use Rattle.irp_forms.specs.Parts.{list_at};
 ghost use Rattle.irp_forms.specs.Values.{handler_at};
 ghost use Rattle.irp_script_reader.specs.Members as spec;
 ghost use Rattle.irp_script_reader.specs.Taking.{Gives};
-ghost use Rattle.irp_script_reader.specs.declared.refusal.Fault.TheVariants.{BadField};
+ghost use Rattle.irp_script_reader.specs.declared.refusal.MemberFault.TheVariants.{BadField};
 
 use crate::act::Step;
 use crate::acts::step_at;
 use crate::labels::Labels;
 use crate::plans::{is_driver, is_plan_sound, names_known};
-use crate::refusal::Fault;
+use crate::refusal::MemberFault;
 use crate::routines::{completion_at, counted, one_more};
 use crate::script::{CompletionRoutine, ScriptForm};
 use crate::taking::{Stop, Taking, or_fault, unless, with_item};
@@ -70,9 +70,9 @@ impl Taking for Completions {
     /// `TooMany` where there are as many of the rule as there may be.
     #[tactic(auto, unfolding(crate::specs::Members::takes_completion))]
     fn take(self, _alloc: Global, value: &Value) -> Result<Self, Stop> {
-        let routine = or_fault(completion_at(value), Fault::BadField)?;
-        unless(routine.obeys_its_rule(), Fault::RuleBroken)?;
-        let counts = or_fault(counted(self.counts, routine.rule), Fault::TooMany)?;
+        let routine = or_fault(completion_at(value), MemberFault::BadField)?;
+        unless(routine.obeys_its_rule(), MemberFault::RuleBroken)?;
+        let counts = or_fault(counted(self.counts, routine.rule), MemberFault::TooMany)?;
         let routines = with_item(self.routines, routine)?;
         Ok(Completions { routines, counts })
     }
@@ -84,9 +84,9 @@ impl Taking for Cancels {
     /// `BadField` where it is no cancel routine's answer, `TooMany` where there are as many as there may be.
     #[tactic(auto, unfolding(crate::specs::Members::takes_cancel))]
     fn take(self, _alloc: Global, value: &Value) -> Result<Self, Stop> {
-        let answer = or_fault(CancelAnswer::from_value(value), Fault::BadField)?;
+        let answer = or_fault(CancelAnswer::from_value(value), MemberFault::BadField)?;
         let counts = self.counts;
-        let cancel = or_fault(one_more(counts.cancel), Fault::TooMany)?;
+        let cancel = or_fault(one_more(counts.cancel), MemberFault::TooMany)?;
         let answers = with_item(self.answers, answer)?;
         Ok(Cancels {
             answers,
@@ -102,12 +102,15 @@ impl Taking for Dispatches {
     /// `NoRoutine` where it names a routine that isn't there, `TooMany` where there are as many as there may be.
     #[tactic(auto, unfolding(crate::specs::Members::takes_dispatch))]
     fn take(self, _alloc: Global, value: &Value) -> Result<Self, Stop> {
-        let plan = or_fault(Plan::from_value(value), Fault::BadField)?;
+        let plan = or_fault(Plan::from_value(value), MemberFault::BadField)?;
         let Dispatches { form, known, plans } = self;
-        unless(form.may_plan(plan), Fault::BadField)?;
-        unless(is_plan_sound(plan), Fault::RuleBroken)?;
-        unless(names_known(known, plan), Fault::NoRoutine)?;
-        unless(plans.as_slice().len() < MOST_DISPATCHES, Fault::TooMany)?;
+        unless(form.may_plan(plan), MemberFault::BadField)?;
+        unless(is_plan_sound(plan), MemberFault::RuleBroken)?;
+        unless(names_known(known, plan), MemberFault::NoRoutine)?;
+        unless(
+            plans.as_slice().len() < MOST_DISPATCHES,
+            MemberFault::TooMany,
+        )?;
         let plans = with_item(plans, plan)?;
         Ok(Dispatches { form, known, plans })
     }
@@ -119,7 +122,7 @@ fn table_at(alloc: Global, value: &Value) -> Result<Row<(u8, DispatchId)>, Stop>
 {
     match list_at(alloc, value) {
         Ok(table) => Ok(table),
-        Err(Unread::Form) => Err(Stop::Fault(Fault::BadField)),
+        Err(Unread::Form) => Err(Stop::MemberFault(MemberFault::BadField)),
         Err(Unread::NoMemory) => Err(Stop::NoMemory),
     }
 }
@@ -133,8 +136,14 @@ impl Taking for Drivers {
     fn take(self, alloc: Global, value: &Value) -> Result<Self, Stop> {
         let table = table_at(alloc, value)?;
         let dispatches = self.dispatches;
-        unless(is_driver(dispatches, table.as_slice()), Fault::BadDispatch)?;
-        unless(self.tables.as_slice().len() < MOST_DRIVERS, Fault::TooMany)?;
+        unless(
+            is_driver(dispatches, table.as_slice()),
+            MemberFault::BadDispatch,
+        )?;
+        unless(
+            self.tables.as_slice().len() < MOST_DRIVERS,
+            MemberFault::TooMany,
+        )?;
         let tables = with_item(self.tables, table)?;
         Ok(Drivers { dispatches, tables })
     }
@@ -162,8 +171,11 @@ impl Taking for Steps {
     /// many.
     #[tactic(auto, unfolding(crate::specs::Members::takes_step))]
     fn take(self, alloc: Global, value: &Value) -> Result<Self, Stop> {
-        let step = or_fault(step_at(self.labels.place_in(value), value), Fault::BadField)?;
-        unless(self.may_have(step), Fault::BadField)?;
+        let step = or_fault(
+            step_at(self.labels.place_in(value), value),
+            MemberFault::BadField,
+        )?;
+        unless(self.may_have(step), MemberFault::BadField)?;
         let labels = self.labels.with_label_in(alloc, value)?;
         let steps = with_item(self.steps, step)?;
         Ok(Steps {

@@ -9,7 +9,7 @@ ghost use Rattle.irp_script_reader.specs.Taking.{Tells};
 use crate::act::Step;
 use crate::labels::Labels;
 use crate::lists::{Cancels, Completions, Dispatches, Drivers, Steps};
-use crate::refusal::{Fault, ScriptFault, ScriptRefusal, Section};
+use crate::refusal::{MemberFault, ScriptFault, ScriptRefusal, Section};
 use crate::script::{CompletionRoutine, Script, ScriptForm, ScriptParts};
 use crate::taking::{list_at, refused};
 use irp_forms::{only_keys, under};
@@ -60,7 +60,7 @@ fn keys_at(given: FormKey, value: &Value) -> Result<(), ScriptFault>
         "setup",
         "steps",
     ];
-    let fault = refused(Fault::BadField, Section::Top, 0);
+    let fault = refused(MemberFault::BadField, Section::Top, 0);
     match given {
         FormKey::One => only_keys(value, keys, &[]).ok_or(fault),
         FormKey::Two => only_keys(value, keys, &["slots"]).ok_or(fault),
@@ -75,7 +75,7 @@ fn count_at(section: Section, least: u32, key: &str, value: &Value) -> Result<u3
 {
     match under::<u32>(key, value) {
         Some(count) if count >= least && count <= 64 => Ok(count),
-        _ => Err(refused(Fault::BadField, section, 0)),
+        _ => Err(refused(MemberFault::BadField, section, 0)),
     }
 }
 

@@ -4,7 +4,7 @@ use thiserror::Error;
 
 /// What is wrong with a part of a script, with its number in the formats.
 #[derive(Clone, Copy, PartialEq, Eq, Debug, Error)]
-pub enum Fault {
+pub enum MemberFault {
     /// A key is missing, unknown or of a wrong shape or range; a seat is not below `seats`; a step on a remove lock or
     /// on a cancel slot stands in `setup`; or what form 1 doesn't have stands there. From form 2 on also a hand to the
     /// step's own seat, and a publish in a slot, or a withdraw from one, that isn't there or isn't the seat's own. A
@@ -76,7 +76,7 @@ pub enum ScriptRefusal {
     #[error("{fault} {section} {index}")]
     At {
         /// What is wrong.
-        fault: Fault,
+        fault: MemberFault,
         /// In which part.
         section: Section,
         /// In which member of the list, from 0.

@@ -4,11 +4,11 @@ ghost use Rattle.std.specs.Prelude.{◌≡◌, Result, Ok};
 ghost use Rattle.std.specs.Option.{ok_or};
 ghost use Rattle.serde_json.specs.Data.{Data};
 ghost use Rattle.serde_json.specs.View.{view};
-ghost use Rattle.irp_script_reader.specs.declared.refusal.{Fault.Fault, ScriptRefusal.TheVariants.At};
+ghost use Rattle.irp_script_reader.specs.declared.refusal.{MemberFault.MemberFault, ScriptRefusal.TheVariants.At};
 ghost use Rattle.irp_script_reader.specs.declared.refusal.ScriptFault.TheVariants.{Refused};
 ghost use Rattle.irp_script_reader.specs.Taking.{Gives, Tells, list_at, unless, with_item};
 
-use crate::refusal::{Fault, ScriptFault, ScriptRefusal, Section};
+use crate::refusal::{MemberFault, ScriptFault, ScriptRefusal, Section};
 use irp_types::Row;
 use serde_json::Value;
 use std::alloc::Global;
@@ -17,7 +17,7 @@ use std::alloc::Global;
 #[derive(Clone, Copy)]
 pub enum Stop {
     /// It has this fault.
-    Fault(Fault),
+    MemberFault(MemberFault),
     /// Memory ran out.
     NoMemory,
 }
@@ -25,27 +25,27 @@ pub enum Stop {
 /// What was read of one of a script's lists.
 pub trait Taking {
     /// The same with the next member, or that member's fault.
-    ghost takes: { Self → Data → Result Self Fault };
+    ghost takes: { Self → Data → Result Self MemberFault };
 
     fn take(self, alloc: Global, value: &Value) -> Result<Self, Stop>
         ensures { Gives result (takes self (view value.now)) };
 }
 
 /// What there is, or the fault where there is nothing.
-pub fn or_fault<T>(given: Option<T>, fault: Fault) -> Result<T, Stop>
+pub fn or_fault<T>(given: Option<T>, fault: MemberFault) -> Result<T, Stop>
     ensures { Gives result (ok_or given fault) }
 {
-    given.ok_or(Stop::Fault(fault))
+    given.ok_or(Stop::MemberFault(fault))
 }
 
 /// The fault, unless this holds.
-pub fn unless(holds: bool, fault: Fault) -> Result<(), Stop>
+pub fn unless(holds: bool, fault: MemberFault) -> Result<(), Stop>
     ensures { Gives result (unless holds fault) }
 {
     if holds {
         Ok(())
     } else {
-        Err(Stop::Fault(fault))
+        Err(Stop::MemberFault(fault))
     }
 }
 
@@ -61,7 +61,7 @@ pub fn with_item<T: Drop>(row: Row<T>, added: T) -> Result<Row<T>, Stop>
 }
 
 /// A script's fault in a member of a list.
-pub fn refused(fault: Fault, section: Section, index: usize) -> ScriptFault
+pub fn refused(fault: MemberFault, section: Section, index: usize) -> ScriptFault
     ensures { result ≡ Refused (At fault section index) }
 {
     ScriptFault::Refused(ScriptRefusal::At {
@@ -90,13 +90,13 @@ pub fn list_at<L: Taking + Drop>(
     ensures { Tells result (list_at L.takes section key.now empty (view value.now)) }
 {
     let Some(items) = value.get(key).and_then(|list| list.as_array()) else {
-        return Err(refused(Fault::BadField, section, 0));
+        return Err(refused(MemberFault::BadField, section, 0));
     };
     let mut list = empty;
     for (index, item) in items.iter().enumerate() {
         list = match list.take(alloc, item) {
             Ok(longer) => longer,
-            Err(Stop::Fault(fault)) => return Err(refused(fault, section, index)),
+            Err(Stop::MemberFault(fault)) => return Err(refused(fault, section, index)),
             Err(Stop::NoMemory) => return Err(ScriptFault::NoMemory),
         };
     }

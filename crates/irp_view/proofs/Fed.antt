@@ -7,12 +7,12 @@ use Rattle.irp_transcript.specs.declared.header.Header.{Header}
 use Rattle.irp_transcript_reader.specs.Reading.{ReadsFrom, TakesAll, cut}
 use Rattle.irp_transcript_reader.specs.declared.read_fault.ReadFault.{ReadFault}
 use Rattle.irp_transcript_reader.specs.declared.read_fault.ReadFault.TheVariants.{Line as LineFault, NoMemory as FaultMemory}
-use Rattle.irp_text.specs.Fed.{Gives, IsInPlace, IsNextLine}
-use Rattle.irp_text.specs.declared.line.Line.{Line}
-use Rattle.irp_text.specs.declared.line.Line.TheVariants.{Header as HeaderLine, Entry as EntryLine, Word as WordLine}
-use Rattle.irp_text.specs.declared.reader.Reader.{Reader}
-use Rattle.irp_text.proofs.Blocks.{Cut, cut_onward}
-use Rattle.irp_text.proofs.Whole.{refused_last}
+use Rattle.irp_fast_reader.specs.Fed.{Gives, IsInPlace, IsNextLine}
+use Rattle.irp_fast_reader.specs.declared.line.Line.{Line}
+use Rattle.irp_fast_reader.specs.declared.line.Line.TheVariants.{Header as HeaderLine, Entry as EntryLine, Word as WordLine}
+use Rattle.irp_fast_reader.specs.declared.reader.Reader.{Reader}
+use Rattle.irp_fast_reader.proofs.Blocks.{Cut, cut_onward}
+use Rattle.irp_fast_reader.proofs.Whole.{refused_last}
 use Rattle.irp_listing.specs.Bytes.{Bytes}
 use Rattle.irp_view.specs.Reading.{HoldsNone, IsInput, IsNoneOf, IsTextOfNone, TakesAtMost, most_bytes, most_taken}
 use Rattle.irp_view.specs.Feeding.{AreAllBefore, Fails, FailsBehind, IsHopeless, IsSoFar, SayFirst, StartsNone, piece_of, unread_of}

@@ -10,10 +10,10 @@ use Rattle.irp_judge.specs.Judging.{HasJudged, JudgeValue}
 use Rattle.irp_transcript.specs.Headers.{fixed_of}
 use Rattle.irp_transcript.specs.Transcripts.{TranscriptValue, no_lines}
 use Rattle.irp_transcript.specs.declared.header.Header.{Header}
-use Rattle.irp_text.specs.Fed.{HasRead, IsInPlace, with_line}
-use Rattle.irp_text.specs.declared.line.Line.{Line}
-use Rattle.irp_text.specs.declared.line.Line.TheVariants.{Header as HeaderLine, Entry as EntryLine, Word as WordLine}
-use Rattle.irp_text.specs.declared.reader.Reader.{Reader}
+use Rattle.irp_fast_reader.specs.Fed.{HasRead, IsInPlace, with_line}
+use Rattle.irp_fast_reader.specs.declared.line.Line.{Line}
+use Rattle.irp_fast_reader.specs.declared.line.Line.TheVariants.{Header as HeaderLine, Entry as EntryLine, Word as WordLine}
+use Rattle.irp_fast_reader.specs.declared.reader.Reader.{Reader}
 use Rattle.irp_judge.specs.declared.verdict.Verdict.TheVariants.{Illegal}
 use Rattle.irp_types.specs.declared.entry.Entry.{Entry}
 use Rattle.irp_types.specs.State.{Fixed}

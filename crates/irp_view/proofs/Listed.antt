@@ -7,10 +7,10 @@ use Rattle.irp_transcript.specs.Transcripts.{no_lines}
 use Rattle.irp_transcript.specs.declared.header.Header.{Header}
 use Rattle.irp_transcript_reader.specs.Reading.{cut}
 use Rattle.irp_transcript_writer.proofs.Puts.{appends_none, appends_then}
-use Rattle.irp_text.specs.Fed.{HasRead, with_line}
-use Rattle.irp_text.specs.declared.line.Line.{Line}
-use Rattle.irp_text.specs.declared.line.Line.TheVariants.{Header as HeaderLine}
-use Rattle.irp_text.specs.declared.reader.Reader.{Reader}
+use Rattle.irp_fast_reader.specs.Fed.{HasRead, with_line}
+use Rattle.irp_fast_reader.specs.declared.line.Line.{Line}
+use Rattle.irp_fast_reader.specs.declared.line.Line.TheVariants.{Header as HeaderLine}
+use Rattle.irp_fast_reader.specs.declared.reader.Reader.{Reader}
 use Rattle.irp_listing.specs.Bytes.{Bytes}
 use Rattle.irp_listing.specs.Writing.{BreaksOff, Written, count_after}
 use Rattle.irp_listing.specs.declared.writing.Unwritten.{Unwritten}

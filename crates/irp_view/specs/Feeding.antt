@@ -6,10 +6,10 @@ use Rattle.irp_transcript.specs.Transcripts.{TranscriptValue, no_lines}
 use Rattle.irp_transcript_reader.specs.Reading.{TakesAll, cut}
 use Rattle.irp_transcript_reader.specs.declared.read_fault.ReadFault.{ReadFault}
 use Rattle.irp_transcript_reader.specs.declared.read_fault.ReadFault.TheVariants as faults
-use Rattle.irp_text.specs.Fed.{Gives, HasRead, with_line}
-use Rattle.irp_text.specs.declared.line.Line.{Line}
-use Rattle.irp_text.specs.declared.line.Line.TheVariants.{Header as HeaderLine}
-use Rattle.irp_text.specs.declared.reader.Reader.{Reader}
+use Rattle.irp_fast_reader.specs.Fed.{Gives, HasRead, with_line}
+use Rattle.irp_fast_reader.specs.declared.line.Line.{Line}
+use Rattle.irp_fast_reader.specs.declared.line.Line.TheVariants.{Header as HeaderLine}
+use Rattle.irp_fast_reader.specs.declared.reader.Reader.{Reader}
 use Rattle.irp_listing.specs.Bytes.{Bytes}
 use Rattle.irp_view.specs.Reading.{Holds, HoldsNone, IsNoneOf, IsRefused, IsTextOf, IsTextOfNone, TakesAtMost, most_bytes, most_taken}
 use Rattle.irp_view.specs.declared.reading.Start.{Start}

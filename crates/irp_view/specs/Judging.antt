@@ -5,8 +5,8 @@ use Rattle.irp_transcript.specs.Transcripts.{TranscriptValue}
 use Rattle.irp_judge.specs.Checked.{IsExplained, IsVerdictOn, verdict_of}
 use Rattle.irp_judge.specs.Judging.{HasJudged, JudgeValue}
 use Rattle.irp_judge.specs.declared.verdict.Wrong.{Wrong}
-use Rattle.irp_text.specs.Fed.{HasRead}
-use Rattle.irp_text.specs.declared.reader.Reader.{Reader}
+use Rattle.irp_fast_reader.specs.Fed.{HasRead}
+use Rattle.irp_fast_reader.specs.declared.reader.Reader.{Reader}
 use Rattle.irp_listing.specs.Bytes.{Bytes}
 use Rattle.irp_view.specs.Reading.{Holds, IsTextOf, IsTextOfNone}
 use Rattle.irp_view.specs.Drafts.{AreDrafted}

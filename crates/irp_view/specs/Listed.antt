@@ -3,8 +3,8 @@ use Rattle.std.specs.Prelude.{ℕ, ◌≡◌, ◌≤◌, List, [], ◌++◌, len
 use Rattle.std.specs.Io.KnownBytes.{Consumes}
 use Rattle.irp_types.specs.declared.names.IrpRef.{IrpRef}
 use Rattle.irp_transcript.specs.Transcripts.{TranscriptValue}
-use Rattle.irp_text.specs.Fed.{HasRead}
-use Rattle.irp_text.specs.declared.reader.Reader.{Reader}
+use Rattle.irp_fast_reader.specs.Fed.{HasRead}
+use Rattle.irp_fast_reader.specs.declared.reader.Reader.{Reader}
 use Rattle.irp_listing.specs.Bytes.{Bytes}
 use Rattle.irp_listing.specs.Listing.{are_none}
 use Rattle.irp_listing.specs.Writing.{BreaksOff, Written}

@@ -1,15 +1,15 @@
 //! The lines of a transcript's text that comes in blocks, and what was expected of the first that is refused.
 
 ghost use Rattle.std.specs.Prelude.{ℕ, ◌≡◌, ◌+◌, ◌<◌, ◌≤◌, ◌^◌, List, [], length, IfErr, IfOk, IfSome};
-ghost use Rattle.irp_text.specs.Fed.{HasRead};
+ghost use Rattle.irp_fast_reader.specs.Fed.{HasRead};
 ghost use Rattle.irp_transcript.specs.Transcripts.{TranscriptValue, no_lines};
 ghost use Rattle.irp_transcript_reader.specs.Reading.{cut};
 ghost use Rattle.irp_view.specs.Feeding.{AreAllBefore, IsEnd, IsHopeless, Reads, unread_of};
 
 use crate::reading::Unread;
 use crate::refusal::{Before, Expected, bounds_of, expected_in};
-use irp_expected::Before as Bounds;
-use irp_text::{Ahead, Line, Reader};
+use irp_fast_reader::{Ahead, Line, Reader};
+use irp_line_faults::Before as Bounds;
 use irp_transcript_reader::ReadFault;
 use memchr::memchr;
 use std::alloc::Global;
@@ -80,7 +80,7 @@ impl Lines {
         }
     }
 
-    /// Reads on in a block, of which some lines were read ahead, as `irp_text::Reader` does.
+    /// Reads on in a block, of which some lines were read ahead, as `irp_fast_reader::Reader` does.
     pub fn next(
         &mut self,
         alloc: Global,

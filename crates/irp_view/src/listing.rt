@@ -3,7 +3,7 @@
 ghost use Rattle.std.specs.Prelude.{ℕ, ◌≡◌, ◌+◌, ◌<◌, ◌≤◌, List, [], ◌++◌, length, Option, Err};
 ghost use Rattle.irp_listing.specs.Bytes.{Bytes};
 ghost use Rattle.irp_types.specs.declared.names.IrpRef.{IrpRef};
-ghost use Rattle.irp_text.specs.declared.reader.Reader.{Reader};
+ghost use Rattle.irp_fast_reader.specs.declared.reader.Reader.{Reader};
 ghost use Rattle.irp_view.specs.declared.orders.Span.{Span};
 ghost use Rattle.irp_view.specs.declared.showing.Shown.{Shown};
 ghost use Rattle.irp_view.specs.Feeding.{IsSoFar, Starts};
@@ -15,8 +15,8 @@ use crate::lines::Lines;
 use crate::orders::Span;
 use crate::reading::{Start, Unread, read_header, refuse};
 use crate::showing::{Shown, Wanted};
+use irp_fast_reader::{Ahead, count_threads};
 use irp_listing::{Choice, Unwritten, send};
-use irp_text::{Ahead, count_threads};
 use irp_transcript_writer::Out;
 use irp_types::IrpRef;
 use std::alloc::Global;

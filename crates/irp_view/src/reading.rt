@@ -2,7 +2,7 @@
 
 ghost use Rattle.std.specs.Prelude.{ℕ, ◌≡◌, ◌<◌, ◌≤◌, List, [], length};
 ghost use Rattle.irp_listing.specs.Bytes.{Bytes};
-ghost use Rattle.irp_text.specs.Fed.{HasRead};
+ghost use Rattle.irp_fast_reader.specs.Fed.{HasRead};
 ghost use Rattle.irp_transcript.specs.Transcripts.{no_lines};
 ghost use Rattle.irp_view.specs.Feeding.{AreAllBefore, FailsBehind, IsHopeless, IsSoFar, IsStart};
 ghost use Rattle.irp_view.specs.Reading.{most_bytes};
@@ -10,7 +10,7 @@ ghost use Rattle.irp_view.specs.Reading.{most_bytes};
 use crate::input::take_block;
 use crate::lines::{Lines, before_more};
 use crate::refusal::Expected;
-use irp_text::{Ahead, Line};
+use irp_fast_reader::{Ahead, Line};
 use irp_transcript::Header;
 use std::alloc::Global;
 use std::io::Read;

@@ -3,7 +3,7 @@
 ghost use Rattle.std.specs.Prelude.{◌≡◌};
 ghost use Rattle.irp_view.specs.Refusals.{plain_text};
 
-use irp_expected::{Before as Bounds, misfit_of};
+use irp_line_faults::{Before as Bounds, misfit_of};
 use irp_transcript::{Form, Header};
 use irp_transcript_reader::MOST_BYTES;
 use irp_types::limits::MOST_ENTRIES;

@@ -4,13 +4,13 @@ ghost use Rattle.std.specs.Prelude.{◌≡◌, ◌+◌, ◌<◌, ◌≤◌, ◌^
 ghost use Rattle.std.specs.List.{flat_map};
 ghost use Rattle.irp_types.specs.declared.entry.Entry.{Entry};
 ghost use Rattle.irp_judge.specs.Differences.{refusal_in};
-ghost use Rattle.irp_text.specs.Fed.{with_line};
+ghost use Rattle.irp_fast_reader.specs.Fed.{with_line};
 ghost use Rattle.irp_transcript.specs.Transcripts.{TranscriptValue};
 ghost use Rattle.irp_view.specs.RefusedCalls.{HasNoted, more_text, most_told, refused_from, refused_line, refused_text};
 
+use irp_fast_reader::Line;
 use irp_listing::put_line;
 use irp_names::refusal_name;
-use irp_text::Line;
 use irp_types::{Entry, Refusal, Reply};
 use std::alloc::{AllocError, Global};
 

@@ -3,14 +3,14 @@
 ghost use Rattle.std.specs.Prelude.{ℕ, ◌≡◌, ◌+◌, ◌<◌, ◌^◌, List, [], ◌∷◌, ◌++◌, length, OnOk};
 ghost use Rattle.irp_types.specs.declared.entry.Entry.{Entry};
 ghost use Rattle.irp_transcript.specs.Transcripts.{TranscriptValue};
-ghost use Rattle.irp_text.specs.Fed.{IsInPlace, with_line};
-ghost use Rattle.irp_text.specs.declared.line.Line.TheVariants.{Entry as EntryLine, Word as WordOf};
+ghost use Rattle.irp_fast_reader.specs.Fed.{IsInPlace, with_line};
+ghost use Rattle.irp_fast_reader.specs.declared.line.Line.TheVariants.{Entry as EntryLine, Word as WordOf};
 ghost use Rattle.irp_view.specs.Listed.{IsFresh, IsGathered};
 ghost use Rattle.irp_view.specs.Showing.{part_of, with_wanted};
 
 use crate::orders::Span;
+use irp_fast_reader::Line;
 use irp_listing::{Choice, Stacks, put_chosen, put_word_line};
-use irp_text::Line;
 use irp_transcript::WordLine;
 use irp_types::Entry;
 use std::alloc::{AllocError, Global};

@@ -5,8 +5,8 @@ ghost use Rattle.irp_script_reader.specs.Scripts.{ReadsScript};
 ghost use Rattle.irp_words.specs.Telling.{Fails, Prints};
 
 use crate::ending::Ending;
-use irp_advice::{Fault, Place, Warning, faults, warnings};
 use irp_grammar::{Said, Told, Untold, fault_lines, json, read_lines, words};
+use irp_script_faults::{FaultMessage, Place, Warning, faults, warnings};
 use irp_script_reader::{ScriptFault, read_script};
 use irp_transcript_writer::{Out, put_all};
 use std::alloc::{AllocError, Global};
@@ -99,7 +99,7 @@ fn is_json(text: &[u8]) -> bool {
 }
 
 /// Appends a line for each fault, and tells whether there is one.
-fn put_fault_lines(lines: &mut Vec<u8>, faults: &[Fault]) -> Result<bool, AllocError> {
+fn put_fault_lines(lines: &mut Vec<u8>, faults: &[FaultMessage]) -> Result<bool, AllocError> {
     for fault in faults {
         fault.write(lines)?;
         lines.push(b'\n')?;

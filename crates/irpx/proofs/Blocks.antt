@@ -12,14 +12,14 @@ use Rattle.irp_transcript.specs.declared.header.Header.{Header}
 use Rattle.irp_transcript_reader.specs.Reading.{ReadsFrom, cut}
 use Rattle.irp_transcript_reader.specs.declared.read_fault.ReadFault.{ReadFault}
 use Rattle.irp_transcript_reader.specs.declared.read_fault.ReadFault.TheVariants.{Line as LineFault, NoMemory}
-use Rattle.irp_text.specs.Fed.{Gives, HasRead, IsInPlace, with_line}
-use Rattle.irp_text.specs.declared.line.Line.{Line}
-use Rattle.irp_text.specs.declared.line.Line.TheVariants.{Header as HeaderLine, Entry as EntryLine, Word as WordLine}
-use Rattle.irp_text.specs.declared.reader.Reader.{Reader}
+use Rattle.irp_fast_reader.specs.Fed.{Gives, HasRead, IsInPlace, with_line}
+use Rattle.irp_fast_reader.specs.declared.line.Line.{Line}
+use Rattle.irp_fast_reader.specs.declared.line.Line.TheVariants.{Header as HeaderLine, Entry as EntryLine, Word as WordLine}
+use Rattle.irp_fast_reader.specs.declared.reader.Reader.{Reader}
 use Rattle.irp_judge.specs.declared.verdict.Verdict.TheVariants.{Legal}
 use Rattle.irpx.specs.Checking.{IsInput, Judges, Unjudgeable, most_bytes, most_taken}
 use Rattle.irpx.specs.Judging.{AreJudged, Concludes, Ends, Fails, IsHopeless, IsSoFar, piece_of, refusal_of}
-use Rattle.irpx.specs.declared.fault.Fault.{Fault}
+use Rattle.irpx.specs.declared.not_done.NotDone.{NotDone}
 use Rattle.irpx.specs.Streams.{Bytes, IsReadingFault, TakesAtMost}
 use Rattle.irpx.proofs.Pieces.{reads_on}
 
@@ -187,11 +187,11 @@ hopeless_block (LineFault line) after text before block gives = λ more.
 hopeless_block NoMemory after text before block gives = tt
 
 -- what is concluded of the text of an input at its end
-ends_fault : (fault : Fault) (old now : Bytes) (text : List ℕ) → IsInput old now text → TakesAtMost most_taken old now → Unjudgeable text fault → Fails old now fault
+ends_fault : (fault : NotDone) (old now : Bytes) (text : List ℕ) → IsInput old now text → TakesAtMost most_taken old now → Unjudgeable text fault → Fails old now fault
 ends_fault fault old now text input takes (inl none) = (inl (subst IsReadingFault (sym none) tt), takes)
 ends_fault fault old now text input takes (inr (line, is, refused)) = (inr (line, text, is, input, refused), takes)
 
-pub ends : (result : Result Verdict Fault) (old now : Bytes) (left : ℕ) (text : List ℕ) → IsSoFar old now left text → IsAtEnd now → Concludes result text → Ends old now result
+pub ends : (result : Result Verdict NotDone) (old now : Bytes) (left : ℕ) (text : List ℕ) → IsSoFar old now left text → IsAtEnd now → Concludes result text → Ends old now result
 ends (Ok verdict) old now left text so_far end judges = (text, is_input old now left text so_far end, judges)
 ends (Err fault) old now left text so_far end refused = ends_fault fault old now text (is_input old now left text so_far end) (takes_so_far old now left text so_far) refused
 

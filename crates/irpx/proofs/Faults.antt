@@ -7,9 +7,9 @@ use Rattle.irp_types.specs.State.{Tables}
 use Rattle.irpx.specs.Running.{AfterScript, IsRanBy, IsRunningFault, text_with}
 use Rattle.irpx.specs.Streams.{Output}
 use Rattle.irpx.specs.Writing.{BreaksOff, Written}
-use Rattle.irpx.specs.declared.fault.Fault.{Fault}
-use Rattle.irpx.specs.declared.fault.Fault.TheVariants.{NoMemory, Stopped}
-use Rattle.irpx.specs.declared.fault.Phase.TheVariants.{Running}
+use Rattle.irpx.specs.declared.not_done.NotDone.{NotDone}
+use Rattle.irpx.specs.declared.not_done.NotDone.TheVariants.{NoMemory, Stopped}
+use Rattle.irpx.specs.declared.not_done.Phase.TheVariants.{Running}
 use Rattle.irpx.proofs.Pieces.{quiet_itself}
 
 -- memory ran out before anything went out
@@ -17,7 +17,7 @@ pub no_memory : (T : Type 0) (workers : ℕ) (script : Script) (tables : Tables)
 no_memory T workers script tables output = inl (tt, quiet_itself output)
 
 -- there is no transcript
-pub no_transcript : (T : Type 0) (workers : ℕ) (script : Script) (tables : Tables) (output : Output) (fault : Fault) → IsRunningFault fault → AfterScript {T = T} workers script tables output output (Err fault)
+pub no_transcript : (T : Type 0) (workers : ℕ) (script : Script) (tables : Tables) (output : Output) (fault : NotDone) → IsRunningFault fault → AfterScript {T = T} workers script tables output output (Err fault)
 no_transcript T workers script tables output fault unrun = inl (unrun, quiet_itself output)
 
 -- the transcript was written, and tells of this stop or of none
@@ -34,7 +34,7 @@ written_stop workers script tables before after transcript given stop some is wr
     inr (inl (stop, transcript, refl, subst (IsRanBy workers script tables transcript) some is, written))
 
 -- it wasn't
-pub broken_off : (workers : ℕ) (script : Script) (tables : Tables) (before after : Output) (transcript : TranscriptValue) (given : Option Stop) (fault : Fault)
+pub broken_off : (workers : ℕ) (script : Script) (tables : Tables) (before after : Output) (transcript : TranscriptValue) (given : Option Stop) (fault : NotDone)
     → IsRanBy workers script tables transcript given → BreaksOff (text_with transcript) before after fault
     → AfterScript {T = Unit {0}} workers script tables before after (Err fault)
 broken_off workers script tables before after transcript given fault is broke = inr (inr (given, transcript, is, broke))

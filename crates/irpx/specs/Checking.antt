@@ -25,9 +25,9 @@ use Rattle.irp_judge.specs.declared.verdict.Verdict.{Verdict}
 use Rattle.irp_judge.specs.declared.verdict.Verdict.TheVariants as verdict
 use Rattle.irpx.specs.Streams.{Bytes, IsQuiet, IsReadingFault, Output, Streams}
 use Rattle.irpx.specs.Writing.{BreaksOff, Written}
-use Rattle.irpx.specs.declared.fault.Fault.{Fault}
-use Rattle.irpx.specs.declared.fault.Fault.TheVariants.{NoMemory, Output as Failed, RefusedLine}
-use Rattle.irpx.specs.declared.fault.Phase.TheVariants.{Reading, Writing}
+use Rattle.irpx.specs.declared.not_done.NotDone.{NotDone}
+use Rattle.irpx.specs.declared.not_done.NotDone.TheVariants.{NoMemory, Output as Failed, RefusedLine}
+use Rattle.irpx.specs.declared.not_done.Phase.TheVariants.{Reading, Writing}
 
 -- as many bytes as the text of a transcript may have that is checked
 abbrev pub most_bytes : ℕ
@@ -63,12 +63,12 @@ abbrev pub IsRefused : List ℕ → ℕ → Type 0
 IsRefused text line = ReadsFrom no_lines 0 (Err (fault.Line line)) (cut text)
 
 -- why a text has no verdict: its first line that is refused, or want of memory
-abbrev pub Unjudgeable : List ℕ → Fault → Type 0
+abbrev pub Unjudgeable : List ℕ → NotDone → Type 0
 Unjudgeable text fault =
     (fault ≡ NoMemory Reading) ⊎ ((line : ℕ) × (fault ≡ RefusedLine line) × IsRefused text line)
 
 -- why the input has no verdict: it isn't had; or the first line that is refused of the text that it holds
-abbrev pub NotRead : Bytes → Bytes → Fault → Type 0
+abbrev pub NotRead : Bytes → Bytes → NotDone → Type 0
 NotRead old new fault =
     IsReadingFault fault
     ⊎ ((line : ℕ) × (text : List ℕ) × (fault ≡ RefusedLine line) × IsInput old new text × IsRefused text line)
@@ -78,14 +78,14 @@ abbrev pub Told : Verdict → Output → Output → Type 0
 Told verdict before after = Written (verdict_line verdict) before after
 
 -- the same where it isn't: a beginning of its line where the output failed; nothing where there was no memory for it
-abbrev pub Untold : Verdict → Output → Output → Fault → Type 0
+abbrev pub Untold : Verdict → Output → Output → NotDone → Type 0
 Untold verdict before after Failed = BreaksOff (verdict_line verdict) before after Failed
 Untold verdict before after (NoMemory Writing) = IsQuiet before after
 Untold verdict before after other = ⊥
 
 -- what `check` did: the input holds a transcript, whose verdict was written. Where there is no verdict nothing went
 -- out. Else the verdict wasn't written
-abbrev pub Checks : Streams → Streams → Result Verdict Fault → Type 0
+abbrev pub Checks : Streams → Streams → Result Verdict NotDone → Type 0
 Checks before after (Ok verdict) =
     HasVerdict before.left after.left verdict × Told verdict before.output after.output
 Checks before after (Err fault) =

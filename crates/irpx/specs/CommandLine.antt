@@ -28,9 +28,9 @@ use Rattle.clap.specs.Simple.{App, new_app, on_top, with_rule, with_subcommand}
 use Rattle.clap.specs.declared.builder.ArgAction.TheVariants.{Set}
 use Rattle.irpx.specs.declared.orders.Order.{Order}
 use Rattle.irpx.specs.declared.orders.Order.TheVariants.{Demo, Run, Check}
-use Rattle.irpx.specs.declared.fault.Fault.{Fault}
-use Rattle.irpx.specs.declared.fault.Fault.TheVariants.{Usage, NoMemory}
-use Rattle.irpx.specs.declared.fault.Phase.TheVariants.{Starting}
+use Rattle.irpx.specs.declared.not_done.NotDone.{NotDone}
+use Rattle.irpx.specs.declared.not_done.NotDone.TheVariants.{Usage, NoMemory}
+use Rattle.irpx.specs.declared.not_done.Phase.TheVariants.{Starting}
 
 -- the option `--workers`, which takes a text
 abbrev pub workers_option : Rule
@@ -68,27 +68,27 @@ workers_in (ten ∷ one ∷ []) =
 workers_in text = None
 
 -- the order to run a script with so many workers, where there may be so many
-abbrev pub run_with : Option ℕ → Result Order Fault
+abbrev pub run_with : Option ℕ → Result Order NotDone
 run_with None = Err Usage
 run_with (Some workers) = Ok (Run workers)
 
 -- the order to run a script with the workers that a text names, or with one where there is no text
-abbrev pub run_in : Option (List ℕ) → Result Order Fault
+abbrev pub run_in : Option (List ℕ) → Result Order NotDone
 run_in None = Ok (Run 1)
 run_in (Some text) = run_with (workers_in text)
 
 -- what the subcommand of this name asks for, with these rows of options
-pub record Asks (name : List ℕ) (rows : List Row) (order : Result Order Fault) : Type 0 where
+pub record Asks (name : List ℕ) (rows : List Row) (order : Result Order NotDone) : Type 0 where
   pub demo : name ≡ codes "demo" → order ≡ Ok Demo
   pub run : name ≡ codes "run" → order ≡ run_in (first_of (codes "workers") rows)
   pub check : name ≡ codes "check" → order ≡ Ok Check
 
 -- the same, if memory doesn't run out
-abbrev pub AsksOrMemory : List ℕ → List Row → Result Order Fault → Type 0
+abbrev pub AsksOrMemory : List ℕ → List Row → Result Order NotDone → Type 0
 AsksOrMemory name rows order = Asks name rows order ⊎ (order ≡ Err (NoMemory Starting))
 
 -- why no order comes of words: they are none that the program takes, or memory ran out
-abbrev pub IsStartingFault : Fault → Type 0
+abbrev pub IsStartingFault : NotDone → Type 0
 IsStartingFault Usage = Unit {0}
 IsStartingFault (NoMemory Starting) = Unit {0}
 IsStartingFault other = ⊥

@@ -21,9 +21,9 @@ use Rattle.irp_transcript.specs.declared.header.Header.{Header}
 use Rattle.irp_transcript_writer.specs.Lines.{lines, text_of}
 use Rattle.irpx.specs.Streams.{IsQuiet, Output}
 use Rattle.irpx.specs.Writing.{BreaksOff, Written}
-use Rattle.irpx.specs.declared.fault.Fault.{Fault}
-use Rattle.irpx.specs.declared.fault.Fault.TheVariants.{NoMemory}
-use Rattle.irpx.specs.declared.fault.Phase.TheVariants.{Running}
+use Rattle.irpx.specs.declared.not_done.NotDone.{NotDone}
+use Rattle.irpx.specs.declared.not_done.NotDone.TheVariants.{NoMemory}
+use Rattle.irpx.specs.declared.not_done.Phase.TheVariants.{Running}
 
 -- the calls of a history, in order, each with the seat that made it and with its reply
 abbrev pub calls_of : List Entry → List (ℕ × Call × Reply)
@@ -48,7 +48,7 @@ pub record IsDemoTranscript (transcript : TranscriptValue) : Type 0 where
 
 -- what the demonstration leaves: the text of such a transcript went out, and nothing failed; or memory ran out, and
 -- nothing went out; or the writing broke off
-abbrev pub AfterDemo : {T : Type 0} → Output → Output → Result T Fault → Type 0
+abbrev pub AfterDemo : {T : Type 0} → Output → Output → Result T NotDone → Type 0
 AfterDemo before after (Ok done) =
     (transcript : TranscriptValue) × IsDemoTranscript transcript
     × Written (text_of (lines transcript)) before after

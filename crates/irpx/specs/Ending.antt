@@ -5,13 +5,13 @@ use Rattle.irp_judge.specs.declared.verdict.Verdict.{Verdict}
 use Rattle.irp_judge.specs.declared.verdict.Verdict.TheVariants as verdict
 use Rattle.irpx.specs.declared.ending.Ending.{Ending}
 use Rattle.irpx.specs.declared.ending.Ending.TheVariants.{Done, Illegal, Faulty}
-use Rattle.irpx.specs.declared.fault.Fault.{Fault}
-use Rattle.irpx.specs.declared.fault.Fault.TheVariants as fault
+use Rattle.irpx.specs.declared.not_done.NotDone.{NotDone}
+use Rattle.irpx.specs.declared.not_done.NotDone.TheVariants as fault
 
 -- ---- what a result ends with
 
 -- by what its value ends with; a fault with itself
-abbrev pub ending_of : {T : Type 0} → (T → Ending) → Result T Fault → Ending
+abbrev pub ending_of : {T : Type 0} → (T → Ending) → Result T NotDone → Ending
 ending_of of_value (Ok value) = of_value value
 ending_of of_value (Err told) = Faulty told
 
@@ -28,7 +28,7 @@ of_verdict (verdict.Illegal at) = Illegal
 
 -- the exit status of a fault: of a text that is refused, of receipts that differ, of memory that ran out, of other
 -- words, and of a stream that failed
-abbrev pub fault_status : Fault → ℕ
+abbrev pub fault_status : NotDone → ℕ
 fault_status (fault.RefusedScript refusal) = 1
 fault_status (fault.HandsBetween step) = 1
 fault_status (fault.RefusedLine line) = 1
@@ -47,7 +47,7 @@ status_of (Faulty told) = fault_status told
 
 -- a fault's line for standard error, without its newline, where it is known: that of a refused script ends with the
 -- refusal's text
-abbrev pub complaint_of : Fault → Option (List ℕ)
+abbrev pub complaint_of : NotDone → Option (List ℕ)
 complaint_of (fault.RefusedScript refusal) = None
 complaint_of (fault.HandsBetween step) = None
 complaint_of (fault.RefusedLine line) = Some (codes "irpx: transcript refused: line " ++ decimal line)

@@ -9,14 +9,14 @@ use Rattle.irp_transcript_reader.specs.declared.read_fault.ReadFault.TheVariants
 use Rattle.irp_judge.specs.Judging.{HasJudged, JudgeValue}
 use Rattle.irp_judge.specs.declared.verdict.Verdict.{Verdict}
 use Rattle.irp_judge.specs.declared.verdict.Verdict.TheVariants.{Legal}
-use Rattle.irp_text.specs.Fed.{HasRead, with_line}
-use Rattle.irp_text.specs.declared.line.Line.TheVariants.{Header as HeaderLine}
-use Rattle.irp_text.specs.declared.reader.Reader.{Reader}
+use Rattle.irp_fast_reader.specs.Fed.{HasRead, with_line}
+use Rattle.irp_fast_reader.specs.declared.line.Line.TheVariants.{Header as HeaderLine}
+use Rattle.irp_fast_reader.specs.declared.reader.Reader.{Reader}
 use Rattle.irpx.specs.Checking.{HasVerdict, IsRefused, Judges, NotRead, Unjudgeable, most_bytes, most_taken}
 use Rattle.irpx.specs.Streams.{Bytes, TakesAtMost}
-use Rattle.irpx.specs.declared.fault.Fault.{Fault}
-use Rattle.irpx.specs.declared.fault.Fault.TheVariants.{RefusedLine, NoMemory as OutOfMemory}
-use Rattle.irpx.specs.declared.fault.Phase.TheVariants.{Reading}
+use Rattle.irpx.specs.declared.not_done.NotDone.{NotDone}
+use Rattle.irpx.specs.declared.not_done.NotDone.TheVariants.{RefusedLine, NoMemory as OutOfMemory}
+use Rattle.irpx.specs.declared.not_done.Phase.TheVariants.{Reading}
 use Rattle.irpx.specs.declared.judging.Start.{Start}
 
 -- this text was taken of the input so far, and so many bytes may follow
@@ -37,12 +37,12 @@ IsHopeless (Line line) text = (more : List ℕ) → IsRefused (text ++ more) lin
 IsHopeless NoMemory text = ⊤
 
 -- why a text that isn't read to its end has no verdict
-abbrev pub refusal_of : ReadFault → Fault
+abbrev pub refusal_of : ReadFault → NotDone
 refusal_of (Line line) = RefusedLine line
 refusal_of NoMemory = OutOfMemory Reading
 
 -- the verdict on a whole text, or its first line that is refused
-abbrev pub Concludes : Result Verdict Fault → List ℕ → Type 0
+abbrev pub Concludes : Result Verdict NotDone → List ℕ → Type 0
 Concludes (Ok verdict) text = Judges text verdict
 Concludes (Err fault) text = Unjudgeable text fault
 
@@ -52,7 +52,7 @@ JudgesBlock (Ok done) reader judge text = AreJudged reader judge text
 JudgesBlock (Err fault) reader judge text = IsHopeless fault text
 
 -- why there is no verdict on the input, of which not too much was taken
-abbrev pub Fails : Bytes → Bytes → Fault → Type 0
+abbrev pub Fails : Bytes → Bytes → NotDone → Type 0
 Fails old new fault = NotRead old new fault × TakesAtMost most_taken old new
 
 -- a piece of a buffer
@@ -69,12 +69,12 @@ pub record Starts (old new : Bytes) (start : Start) (reader : Reader) (buffer : 
   pub so_far : IsSoFar old new start.left (text ++ piece_of buffer start.from start.to)
 
 -- what becomes of the input up to its header: where it has no lines, the verdict on it
-abbrev pub IsStart : Bytes → Bytes → Result (Option Start) Fault → Reader → List ℕ → Type 0
+abbrev pub IsStart : Bytes → Bytes → Result (Option Start) NotDone → Reader → List ℕ → Type 0
 IsStart old new (Ok None) reader buffer = HasVerdict old new (Legal 0)
 IsStart old new (Ok (Some start)) reader buffer = Starts old new start reader buffer
 IsStart old new (Err fault) reader buffer = Fails old new fault
 
 -- the verdict on the input, or why there is none
-abbrev pub Ends : Bytes → Bytes → Result Verdict Fault → Type 0
+abbrev pub Ends : Bytes → Bytes → Result Verdict NotDone → Type 0
 Ends old new (Ok verdict) = HasVerdict old new verdict
 Ends old new (Err fault) = Fails old new fault

@@ -8,27 +8,27 @@ use Rattle.irpx.specs.Running.{AfterRun, most_taken as most_run}
 use Rattle.irpx.specs.Streams.{IsQuiet, Streams, TakesAtMost}
 use Rattle.irpx.specs.declared.ending.Ending.{Ending}
 use Rattle.irpx.specs.declared.ending.Ending.TheVariants.{Faulty}
-use Rattle.irpx.specs.declared.fault.Fault.{Fault}
+use Rattle.irpx.specs.declared.not_done.NotDone.{NotDone}
 use Rattle.irpx.specs.declared.orders.Order.{Order}
 use Rattle.irpx.specs.declared.orders.Order.TheVariants.{Demo, Run, Check}
 
 -- how much was read: nothing, but where the words ask for a script to be run or for a transcript to be checked
-abbrev pub ReadsFor : Result Order Fault → Streams → Streams → Type 0
+abbrev pub ReadsFor : Result Order NotDone → Streams → Streams → Type 0
 ReadsFor (Ok Demo) before after = after.left ≡ before.left
 ReadsFor (Ok (Run workers)) before after = TakesAtMost most_run before.left after.left
 ReadsFor (Ok Check) before after = TakesAtMost most_checked before.left after.left
 ReadsFor (Err fault) before after = after.left ≡ before.left
 
 -- what was done, by what the words ask for
-abbrev pub Obeys : Result Order Fault → Streams → Streams → Ending → Type 0
+abbrev pub Obeys : Result Order NotDone → Streams → Streams → Ending → Type 0
 Obeys (Ok Demo) before after ending =
-    (result : Result (Unit {0}) Fault) × (ending ≡ ending_of done result)
+    (result : Result (Unit {0}) NotDone) × (ending ≡ ending_of done result)
     × AfterDemo before.output after.output result
 Obeys (Ok (Run workers)) before after ending =
-    (result : Result (Unit {0}) Fault) × (ending ≡ ending_of done result)
+    (result : Result (Unit {0}) NotDone) × (ending ≡ ending_of done result)
     × AfterRun workers before after result
 Obeys (Ok Check) before after ending =
-    (result : Result Verdict Fault) × (ending ≡ ending_of of_verdict result)
+    (result : Result Verdict NotDone) × (ending ≡ ending_of of_verdict result)
     × Checks before after result
 Obeys (Err fault) before after ending =
     (ending ≡ Faulty fault) × IsQuiet before.output after.output

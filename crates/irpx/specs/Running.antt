@@ -55,15 +55,15 @@ use Rattle.irp_script.specs.Ran.{Ran}
 use Rattle.irp_script.specs.declared.stop.Stop.{Stop}
 use Rattle.irpx.specs.Streams.{Bytes, IsQuiet, IsReadingFault, Output, Streams}
 use Rattle.irpx.specs.Writing.{BreaksOff, Written}
-use Rattle.irpx.specs.declared.fault.Fault.{Fault}
-use Rattle.irpx.specs.declared.fault.Fault.TheVariants.{
+use Rattle.irpx.specs.declared.not_done.NotDone.{NotDone}
+use Rattle.irpx.specs.declared.not_done.NotDone.TheVariants.{
   HandsBetween,
   NoMemory,
   ReceiptsDiffer,
   RefusedScript,
   Stopped,
 }
-use Rattle.irpx.specs.declared.fault.Phase.TheVariants.{Running}
+use Rattle.irpx.specs.declared.not_done.Phase.TheVariants.{Running}
 
 -- ---- the input
 
@@ -82,7 +82,7 @@ abbrev pub HoldsScript : Bytes → Bytes → Script → Type 0
 HoldsScript old new script = (text : List ℕ) × IsRead old new text × ReadsScript (Ok script) text
 
 -- why there is no script: the text isn't had; or what is read of the input is refused, so
-abbrev pub NoScript : Bytes → Bytes → Fault → Type 0
+abbrev pub NoScript : Bytes → Bytes → NotDone → Type 0
 NoScript old new fault =
     IsReadingFault fault
     ⊎ ((refusal : ScriptRefusal) × (text : List ℕ) × (fault ≡ RefusedScript refusal)
@@ -159,7 +159,7 @@ abbrev pub text_with : TranscriptValue → List ℕ
 text_with transcript = text_of (lines transcript)
 
 -- why there is no transcript of a script that was run: memory ran out, or the seats kept other entries
-abbrev pub IsRunningFault : Fault → Type 0
+abbrev pub IsRunningFault : NotDone → Type 0
 IsRunningFault (NoMemory Running) = Unit {0}
 IsRunningFault ReceiptsDiffer = Unit {0}
 IsRunningFault other = ⊥
@@ -195,7 +195,7 @@ pub record IsRanBy (workers : ℕ) (script : Script) (tables : Tables) (transcri
 -- what came of a script with these tables that so many workers were to run. To its end: the transcript of such a run
 -- without a stop was written. Else there is no transcript, and nothing went out; or the transcript of one with this
 -- stop was written; or a beginning of the transcript of one went out
-abbrev pub AfterScript : {T : Type 0} → ℕ → Script → Tables → Output → Output → Result T Fault → Type 0
+abbrev pub AfterScript : {T : Type 0} → ℕ → Script → Tables → Output → Output → Result T NotDone → Type 0
 AfterScript workers script tables before after (Ok done) =
     (transcript : TranscriptValue) × IsRanBy workers script tables transcript None
     × Written (text_with transcript) before after
@@ -214,14 +214,14 @@ HandsFirst workers place before after script =
     × (position (hands_between workers) script.steps ≡ place)
 
 -- the input holds a script that hands nothing between so many workers, and this came of it
-abbrev pub RunsWhole : {T : Type 0} → ℕ → Streams → Streams → Result T Fault → Type 0
+abbrev pub RunsWhole : {T : Type 0} → ℕ → Streams → Streams → Result T NotDone → Type 0
 RunsWhole workers before after result =
     (script : Script) × HandsFirst workers None before after script
     × AfterScript workers script (tables_of script) before.output after.output result
 
 -- what `run` did with so many workers: there is no script, or one that hands a reference between workers, and nothing
 -- went out; or the input holds one that hands nothing between them, which was run to its end or not
-abbrev pub AfterRun : {T : Type 0} → ℕ → Streams → Streams → Result T Fault → Type 0
+abbrev pub AfterRun : {T : Type 0} → ℕ → Streams → Streams → Result T NotDone → Type 0
 AfterRun {T = T} workers before after (Ok done) = RunsWhole {T = T} workers before after (Ok done)
 AfterRun {T = T} workers before after (Err fault) =
     (NoScript before.left after.left fault × IsQuiet before.output after.output)

@@ -1,9 +1,9 @@
 -- The streams of the program: its input and its output, before and after some work.
 use Rattle.std.specs.Prelude.{ℕ, ◌≡◌, ◌≤◌, List, length, Option}
 use Rattle.std.specs.Io.KnownBytes.{Consumes, Keeps}
-use Rattle.irpx.specs.declared.fault.Fault.{Fault}
-use Rattle.irpx.specs.declared.fault.Fault.TheVariants.{Input, NoMemory}
-use Rattle.irpx.specs.declared.fault.Phase.TheVariants.{Reading}
+use Rattle.irpx.specs.declared.not_done.NotDone.{NotDone}
+use Rattle.irpx.specs.declared.not_done.NotDone.TheVariants.{Input, NoMemory}
+use Rattle.irpx.specs.declared.not_done.Phase.TheVariants.{Reading}
 
 -- what is left of an input, or what went out, where that is known
 abbrev pub Bytes : Type 0
@@ -34,7 +34,7 @@ abbrev pub IsQuiet : Output → Output → Type 0
 IsQuiet before after = Keeps before.gone after.gone × (after.failures ≡ before.failures)
 
 -- why a text isn't had from the input: it failed, or memory ran out
-abbrev pub IsReadingFault : Fault → Type 0
+abbrev pub IsReadingFault : NotDone → Type 0
 IsReadingFault Input = Unit {0}
 IsReadingFault (NoMemory Reading) = Unit {0}
 IsReadingFault other = ⊥

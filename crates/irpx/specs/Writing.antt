@@ -3,9 +3,9 @@ use Rattle.std.specs.Prelude.{ℕ, ◌≡◌, ◌<◌, List, ◌++◌, length}
 use Rattle.std.specs.Io.KnownBytes.{Appends}
 use Rattle.irp_transcript_writer.specs.Out.{risen}
 use Rattle.irpx.specs.Streams.{Bytes, Output}
-use Rattle.irpx.specs.declared.fault.Fault.{Fault}
-use Rattle.irpx.specs.declared.fault.Fault.TheVariants as fault
-use Rattle.irpx.specs.declared.fault.Phase.TheVariants.{Writing}
+use Rattle.irpx.specs.declared.not_done.NotDone.{NotDone}
+use Rattle.irpx.specs.declared.not_done.NotDone.TheVariants as fault
+use Rattle.irpx.specs.declared.not_done.Phase.TheVariants.{Writing}
 
 -- a beginning of the text went out, which isn't the whole text
 pub record Begins (text : List ℕ) (old new : Bytes) : Type 0 where
@@ -20,11 +20,11 @@ abbrev pub Written : List ℕ → Output → Output → Type 0
 Written text before after = Appends before.gone after.gone text × (after.failures ≡ before.failures)
 
 -- this fault came while something was written: the output's, and its count of failures rose, or want of memory
-abbrev pub IsWritingFault : Output → Output → Fault → Type 0
+abbrev pub IsWritingFault : Output → Output → NotDone → Type 0
 IsWritingFault before after fault.Output = after.failures ≡ risen before.failures
 IsWritingFault before after (fault.NoMemory Writing) = after.failures ≡ before.failures
 IsWritingFault before after other = ⊥
 
 -- a beginning of the text went out, before this fault
-abbrev pub BreaksOff : List ℕ → Output → Output → Fault → Type 0
+abbrev pub BreaksOff : List ℕ → Output → Output → NotDone → Type 0
 BreaksOff text before after told = Begins text before.gone after.gone × IsWritingFault before after told

@@ -5,11 +5,11 @@ ghost use Rattle.irpx.specs.Checking.{Checks, Told, Untold, most_taken, verdict_
 ghost use Rattle.irpx.specs.Judging.{Ends};
 ghost use Rattle.irpx.specs.Streams.{TakesAtMost, output_of, streams_of};
 
-use crate::fault::{Fault, Phase};
 use crate::input::BLOCK;
 use crate::judging::{judge_rest, read_header};
+use crate::not_done::{NotDone, Phase};
+use irp_fast_reader::Reader;
 use irp_judge::Verdict;
-use irp_text::Reader;
 use irp_transcript_writer::{Out, put_all};
 use std::alloc::{AllocError, Global};
 use std::io::Read;
@@ -23,7 +23,7 @@ fn judged<R: Read, T: Threads + Sync>(
     rt: &T,
     alloc: Global,
     input: &mut R,
-) -> Result<Verdict, Fault>
+) -> Result<Verdict, NotDone>
     ensures { Ends (R.remaining input.old) (R.remaining input.new) result }
 {
     let mut buffer = [0u8; BLOCK];
@@ -45,18 +45,18 @@ fn line_of(alloc: Global, verdict: Verdict) -> Result<String, AllocError>
 }
 
 /// Tells the output a verdict.
-fn tell<O: Out>(alloc: Global, output: &mut O, verdict: Verdict) -> Result<(), Fault>
+fn tell<O: Out>(alloc: Global, output: &mut O, verdict: Verdict) -> Result<(), NotDone>
     ensures ok { OnOk result (Told verdict (output_of (O.gone output.old) (O.failures output.old))
         (output_of (O.gone output.new) (O.failures output.new))) }
     ensures err { IfErr result (Untold verdict (output_of (O.gone output.old) (O.failures output.old))
         (output_of (O.gone output.new) (O.failures output.new))) }
 {
     let Ok(line) = line_of(alloc, verdict) else {
-        return Err(Fault::NoMemory(Phase::Writing));
+        return Err(NotDone::NoMemory(Phase::Writing));
     };
     match put_all(output, line.as_bytes()) {
         Ok(()) => Ok(()),
-        Err(_) => Err(Fault::Output),
+        Err(_) => Err(NotDone::Output),
     }
 }
 
@@ -79,7 +79,7 @@ pub fn check<R: Read, O: Out, T: Threads + Sync>(
     alloc: Global,
     input: &mut R,
     output: &mut O,
-) -> Result<Verdict, Fault>
+) -> Result<Verdict, NotDone>
     ensures checks { Checks (streams_of (R.remaining input.old) (O.gone output.old) (O.failures output.old))
         (streams_of (R.remaining input.new) (O.gone output.new) (O.failures output.new)) result }
     ensures took { TakesAtMost most_taken (R.remaining input.old) (R.remaining input.new) }

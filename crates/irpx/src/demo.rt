@@ -7,7 +7,7 @@ ghost use Rattle.irp_transcript.specs.Tokens.{needs_token};
 ghost use Rattle.irpx.specs.Demo.{calls_of, AfterDemo, AreDemoCalls, IsDemoTranscript};
 ghost use Rattle.irpx.specs.Streams.{output_of};
 
-use crate::fault::{Fault, Phase};
+use crate::not_done::{NotDone, Phase};
 use crate::writing::write;
 use irp_manager::KnowsNothing;
 use irp_routines::{Ask, Dispatch, Store};
@@ -137,7 +137,7 @@ fn transcript(rt: &impl Wait, alloc: Global, dispatch: Dispatch) -> Option<Trans
 /// `NoMemory` of `Running` where memory ran out for the transcript, and nothing went out. Else, after a beginning of
 /// such a text that isn't the whole: `Output` where the output failed, and exactly then its count of failures rises;
 /// `NoMemory` of `Writing`.
-pub fn demo<O: Out>(rt: &impl Wait, alloc: Global, output: &mut O) -> Result<(), Fault>
+pub fn demo<O: Out>(rt: &impl Wait, alloc: Global, output: &mut O) -> Result<(), NotDone>
     ensures { AfterDemo (output_of (O.gone output.old) (O.failures output.old))
         (output_of (O.gone output.new) (O.failures output.new)) result }
 {
@@ -146,11 +146,11 @@ pub fn demo<O: Out>(rt: &impl Wait, alloc: Global, output: &mut O) -> Result<(),
         information: 5,
     };
     let Ok(finish) = Box::new(alloc, finish) else {
-        return Err(Fault::NoMemory(Phase::Running));
+        return Err(NotDone::NoMemory(Phase::Running));
     };
     let dispatch = Dispatch::new(Known::NONE, finish);
     let Some(transcript) = transcript(rt, alloc, dispatch) else {
-        return Err(Fault::NoMemory(Phase::Running));
+        return Err(NotDone::NoMemory(Phase::Running));
     };
     write(alloc, output, &transcript)
 }

@@ -4,7 +4,7 @@ ghost use Rattle.std.specs.Prelude.{◌≡◌};
 ghost use Rattle.std.specs.Process.{exit_status};
 ghost use Rattle.irpx.specs.Ending.{done, ending_of, of_verdict, status_of};
 
-use crate::fault::Fault;
+use crate::not_done::NotDone;
 use irp_judge::Verdict;
 use std::process::ExitCode;
 
@@ -16,12 +16,12 @@ pub enum Ending {
     /// The transcript that was checked isn't legal: status 2.
     Illegal,
     /// Something wasn't done: the fault's status, and its line for standard error.
-    Faulty(Fault),
+    Faulty(NotDone),
 }
 
 impl Ending {
     /// How the demonstration or a run ends.
-    pub fn of(outcome: Result<(), Fault>) -> Ending
+    pub fn of(outcome: Result<(), NotDone>) -> Ending
         ensures { result ≡ ending_of done outcome }
     {
         match outcome {
@@ -31,7 +31,7 @@ impl Ending {
     }
 
     /// How a check ends.
-    pub fn of_check(outcome: Result<Verdict, Fault>) -> Ending
+    pub fn of_check(outcome: Result<Verdict, NotDone>) -> Ending
         ensures { result ≡ ending_of of_verdict outcome }
     {
         match outcome {

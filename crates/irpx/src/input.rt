@@ -4,7 +4,7 @@ ghost use Rattle.std.specs.Prelude.{◌≡◌, ◌+◌, ◌≤◌, ◌<◌, ◌^
 ghost use Rattle.std.specs.Io.KnownBytes.{Consumes, IsAtEnd};
 ghost use Rattle.irpx.specs.Streams.{IsReadingFault, TakesAtMost};
 
-use crate::fault::{Fault, Phase};
+use crate::not_done::{NotDone, Phase};
 use std::alloc::Global;
 use std::io::Read;
 
@@ -20,7 +20,7 @@ pub const BLOCK: usize = 262_144;
 /// # Errors
 ///
 /// `Input` where a read failed, and `NoMemory` where memory ran out. Then too at most so many bytes are taken from it.
-pub fn read_up_to<R: Read>(alloc: Global, reader: &mut R, limit: usize) -> Result<Vec<u8>, Fault>
+pub fn read_up_to<R: Read>(alloc: Global, reader: &mut R, limit: usize) -> Result<Vec<u8>, NotDone>
     ensures bound { IfOk result (λ read. vec_len read ≤ limit) }
     ensures bytes { IfOk result (λ read.
         IfSome (R.remaining reader.old) (λ input. read.items ≡ take limit input)) }
@@ -35,13 +35,13 @@ pub fn read_up_to<R: Read>(alloc: Global, reader: &mut R, limit: usize) -> Resul
         let wanted = PIECE.min(limit - bytes.len());
         let piece = &mut buffer[..wanted];
         let Ok(taken) = reader.read(piece) else {
-            return Err(Fault::Input);
+            return Err(NotDone::Input);
         };
         if taken == 0 {
             return Ok(bytes);
         }
         if bytes.extend_from_slice(&piece[..taken]).is_err() {
-            return Err(Fault::NoMemory(Phase::Reading));
+            return Err(NotDone::NoMemory(Phase::Reading));
         }
     }
     Ok(bytes)
@@ -54,7 +54,7 @@ pub fn read_up_to<R: Read>(alloc: Global, reader: &mut R, limit: usize) -> Resul
 ///
 /// `Input` where the read failed; an interrupted read is a failed one. Also where the input has more than `left`
 /// bytes: then at most one more was taken from it.
-pub fn take_block<R: Read>(reader: &mut R, buffer: &mut [u8], left: usize) -> Result<usize, Fault>
+pub fn take_block<R: Read>(reader: &mut R, buffer: &mut [u8], left: usize) -> Result<usize, NotDone>
     requires room { 0 < length buffer.old }
     requires bound { left + 1 < 2 ^ 64 }
     ensures room { length buffer.new ≡ length buffer.old }
@@ -63,11 +63,11 @@ pub fn take_block<R: Read>(reader: &mut R, buffer: &mut [u8], left: usize) -> Re
         Consumes (R.remaining reader.old) (R.remaining reader.new) (take count buffer.new)) }
     ensures end { IfOk result (λ count. count ≡ 0 → IsAtEnd (R.remaining reader.new)) }
     ensures within { TakesAtMost (left + 1) (R.remaining reader.old) (R.remaining reader.new) }
-    ensures err { IfErr result (λ fault. fault ≡ Fault.Input) }
+    ensures err { IfErr result (λ fault. fault ≡ NotDone.Input) }
 {
     let wanted = buffer.len().min(left + 1);
     match reader.read(&mut buffer[..wanted]) {
         Ok(count) if count <= left => Ok(count),
-        _ => Err(Fault::Input),
+        _ => Err(NotDone::Input),
     }
 }

@@ -3,7 +3,7 @@
 ghost use Rattle.std.specs.Prelude.{ℕ, ◌≡◌, ◌+◌, ◌<◌, ◌≤◌, ◌^◌, List, [], ◌++◌, length, Some, OnOk};
 ghost use Rattle.irp_judge.specs.Judges.{seen};
 ghost use Rattle.irp_judge.specs.Judging.{HasJudged};
-ghost use Rattle.irp_text.specs.Fed.{HasRead, IsInPlace, with_line};
+ghost use Rattle.irp_fast_reader.specs.Fed.{HasRead, IsInPlace, with_line};
 ghost use Rattle.irp_transcript.specs.Headers.{IsHeader};
 ghost use Rattle.irp_transcript.specs.Transcripts.{TranscriptValue, no_lines};
 ghost use Rattle.irpx.specs.Checking.{most_bytes};
@@ -22,10 +22,10 @@ ghost use Rattle.irpx.specs.Judging.{
 ghost use Rattle.irpx.specs.Streams.{Bytes};
 
 use crate::checking::MOST_BYTES;
-use crate::fault::{Fault, Phase};
 use crate::input::take_block;
+use crate::not_done::{NotDone, Phase};
+use irp_fast_reader::{Ahead, Line, Reader, count_threads};
 use irp_judge::{Judge, Verdict};
-use irp_text::{Ahead, Line, Reader, count_threads};
 use irp_transcript::Header;
 use irp_transcript_reader::ReadFault;
 use std::alloc::{AllocError, Global};
@@ -75,18 +75,18 @@ fn judge_block(
 }
 
 /// Why a text that isn't read to its end has no verdict.
-fn refusal(fault: ReadFault) -> Fault
+fn refusal(fault: ReadFault) -> NotDone
     ensures { result ≡ refusal_of fault }
 {
     match fault {
-        ReadFault::Line(line) => Fault::RefusedLine { line },
-        ReadFault::NoMemory => Fault::NoMemory(Phase::Reading),
+        ReadFault::Line(line) => NotDone::RefusedLine { line },
+        ReadFault::NoMemory => NotDone::NoMemory(Phase::Reading),
     }
 }
 
 /// Takes the rest of an input whose text isn't read to its end, and tells why there is no verdict: where the rest can't
 /// be taken, or is too long, since the input failed.
-fn refuse<R: Read>(input: &mut R, buffer: &mut [u8], left: usize, fault: ReadFault) -> Fault
+fn refuse<R: Read>(input: &mut R, buffer: &mut [u8], left: usize, fault: ReadFault) -> NotDone
     requires few { left ≤ most_bytes }
     requires room { 0 < length buffer.old }
     ensures { (old : Bytes) (text : List ℕ) → IsSoFar old (R.remaining input.old) left text
@@ -124,7 +124,7 @@ pub fn read_header<R: Read>(
     input: &mut R,
     buffer: &mut [u8],
     reader: &mut Reader,
-) -> Result<Option<Start>, Fault>
+) -> Result<Option<Start>, NotDone>
     requires room { 0 < length buffer.old }
     requires fresh { HasRead reader.old [] no_lines }
     ensures start { IsStart (R.remaining input.old) (R.remaining input.new) result reader.new
@@ -165,7 +165,7 @@ pub fn read_header<R: Read>(
 }
 
 /// The verdict on a text that was read to its end.
-fn verdict_of(reader: &Reader, judge: &Judge) -> Result<Verdict, Fault>
+fn verdict_of(reader: &Reader, judge: &Judge) -> Result<Verdict, NotDone>
     ensures { (text : List ℕ) → AreJudged reader.now (seen judge.now) text
         → length text ≤ most_bytes → Concludes result text }
 {
@@ -183,7 +183,7 @@ pub fn judge_rest<R: Read, T: Threads + Sync>(
     buffer: &mut [u8],
     reader: &mut Reader,
     start: &Start,
-) -> Result<Verdict, Fault>
+) -> Result<Verdict, NotDone>
     requires room { 0 < length buffer.old }
     requires header { IsHeader start.now.header }
     requires order { start.now.from ≤ start.now.to }

@@ -4,9 +4,9 @@
 mod checking;
 mod demo;
 mod ending;
-mod fault;
 mod input;
 mod judging;
+mod not_done;
 mod orders;
 mod planned;
 mod running;
@@ -20,7 +20,7 @@ ghost use Rattle.irpx.specs.Program.{Obeys, ReadsFor};
 ghost use Rattle.irpx.specs.Streams.{streams_of};
 
 use crate::ending::Ending;
-use crate::fault::{Fault, Phase};
+use crate::not_done::{NotDone, Phase};
 use crate::orders::Order;
 use irp_transcript_writer::{Out, WriterOut};
 use std::alloc::Global;
@@ -32,24 +32,24 @@ use std::thread::Threads;
 
 /// The words that the program was given. `Usage` where they can't be had, and `NoMemory` where memory was missing for
 /// them.
-fn words_of(rt: &HostRuntime) -> Result<Vec<String>, Fault>
+fn words_of(rt: &HostRuntime) -> Result<Vec<String>, NotDone>
     ensures { IfErr result IsStartingFault }
 {
     let words = match env::args(rt) {
         Ok(words) => words,
         Err(error) if error.kind() == io::ErrorKind::OutOfMemory => {
-            return Err(Fault::NoMemory(Phase::Starting));
+            return Err(NotDone::NoMemory(Phase::Starting));
         }
-        Err(_) => return Err(Fault::Usage),
+        Err(_) => return Err(NotDone::Usage),
     };
     match words.collect(rt.alloc()) {
         Ok(words) => Ok(words),
-        Err(_) => Err(Fault::NoMemory(Phase::Starting)),
+        Err(_) => Err(NotDone::NoMemory(Phase::Starting)),
     }
 }
 
 /// What the words ask for.
-fn order(rt: &HostRuntime) -> Result<Order, Fault>
+fn order(rt: &HostRuntime) -> Result<Order, NotDone>
     ensures order { IfOk result IsOrder }
     ensures unread { IfErr result IsStartingFault }
 {
@@ -63,7 +63,7 @@ fn obey<R: Read, O: Out, T: Threads + Wait + Sync>(
     alloc: Global,
     input: &mut R,
     output: &mut O,
-    order: Result<Order, Fault>,
+    order: Result<Order, NotDone>,
 ) -> Ending
     requires { IfOk order IsOrder }
     ensures read { ReadsFor order
@@ -89,7 +89,7 @@ fn main(rt: HostRuntime) -> ExitCode {
     let mut ending = obey(&rt, rt.alloc(), &mut input, &mut output, order(&rt));
     if let Ending::Faulty(fault) = ending {
         if writeln!(rt.stderr(), "{fault}").is_err() {
-            ending = Ending::Faulty(Fault::Output);
+            ending = Ending::Faulty(NotDone::Output);
         }
     }
     ending.code()

@@ -32,8 +32,8 @@ ghost use Rattle.irpx.specs.Running.{
 };
 ghost use Rattle.irpx.specs.Streams.{Bytes, TakesAtMost, output_of, streams_of};
 
-use crate::fault::{Fault, Phase};
 use crate::input::read_up_to;
+use crate::not_done::{NotDone, Phase};
 use crate::planned::Planned;
 use crate::told::{cancel_told, dispatch_told, routine_told};
 use crate::writing::write;
@@ -59,7 +59,7 @@ use std::thread::Threads;
 const TOO_MANY_BYTES: usize = 1_048_577;
 
 /// Memory ran out while the script was run.
-const NO_MEMORY: Fault = Fault::NoMemory(Phase::Running);
+const NO_MEMORY: NotDone = NotDone::NoMemory(Phase::Running);
 
 /// How many workers run a script, at least one.
 #[derive(Clone, Copy)]
@@ -76,7 +76,7 @@ struct Finished {
 }
 
 /// The script of the input. The fault where the input can't be read, or is no script.
-fn script_of<R: Read>(alloc: Global, input: &mut R) -> Result<Script, Fault>
+fn script_of<R: Read>(alloc: Global, input: &mut R) -> Result<Script, NotDone>
     ensures ok { IfOk result (HoldsScript (R.remaining input.old) (R.remaining input.new)) }
     ensures err { IfErr result (NoScript (R.remaining input.old) (R.remaining input.new)) }
     ensures took { TakesAtMost most_taken (R.remaining input.old) (R.remaining input.new) }
@@ -84,8 +84,8 @@ fn script_of<R: Read>(alloc: Global, input: &mut R) -> Result<Script, Fault>
     let text = read_up_to(alloc, input, TOO_MANY_BYTES)?;
     match read_script(alloc, text.as_slice()) {
         Ok(script) => Ok(script),
-        Err(ScriptFault::Refused(refusal)) => Err(Fault::RefusedScript { refusal }),
-        Err(ScriptFault::NoMemory) => Err(Fault::NoMemory(Phase::Reading)),
+        Err(ScriptFault::Refused(refusal)) => Err(NotDone::RefusedScript { refusal }),
+        Err(ScriptFault::NoMemory) => Err(NotDone::NoMemory(Phase::Reading)),
     }
 }
 
@@ -122,7 +122,7 @@ fn run_transcript(
     transcript: Transcript,
     form: ScriptForm,
     words: Vec<WordLine>,
-) -> Result<Transcript, Fault>
+) -> Result<Transcript, NotDone>
     requires few { slots_of (form_of form) ≤ most_slots }
     ensures made { IfOk result (λ made. made ≡ run_transcript form words.items transcript) }
     ensures accepted { IfOk result IsTranscript }
@@ -135,7 +135,7 @@ fn run_transcript(
         ..
     } = transcript.into_parts();
     let Some(mut header) = header else {
-        return Err(Fault::ReceiptsDiffer);
+        return Err(NotDone::ReceiptsDiffer);
     };
     header.form = form_of(form);
     let transcript = Transcript::new(header, entries, Row::from_vec(words));
@@ -150,7 +150,7 @@ fn finish<A: Ask + Drop, L: Session>(
     shared: Shared<A, L>,
     worked: Worked<'_, L>,
     form: ScriptForm,
-) -> Result<Finished, Fault>
+) -> Result<Finished, NotDone>
     requires seats { L.seats ≡ L.parts }
     requires few { slots_of (form_of form) ≤ most_slots }
     ensures err { IfErr result IsRunningFault }
@@ -167,7 +167,7 @@ fn finish<A: Ask + Drop, L: Session>(
         return Err(NO_MEMORY);
     };
     let Ok(transcript) = shared.close(seats) else {
-        return Err(Fault::ReceiptsDiffer);
+        return Err(NotDone::ReceiptsDiffer);
     };
     let transcript = run_transcript(transcript, form, words)?;
     Ok(Finished { transcript, stop })
@@ -182,7 +182,7 @@ fn session<A: Ask + Send + Drop, L: Session + Send + Sync, T: Threads + Wait + S
     ask: A,
     script: &ScriptParts,
     workers: u32,
-) -> Result<Finished, Fault>
+) -> Result<Finished, NotDone>
     requires workers { 0 < workers }
     requires blank { (blank.name ≡ L.name) × (blank.parts ≡ L.parts) }
     requires seats { (L.parts ≡ script.now.seats) × (L.seats ≡ script.now.seats) }
@@ -224,7 +224,7 @@ fn session<A: Ask + Send + Drop, L: Session + Send + Sync, T: Threads + Wait + S
 }
 
 /// Writes the transcript that a run left. `Stopped` where it is written, but a worker stopped.
-fn write_finished<O: Out>(alloc: Global, output: &mut O, run: &Finished) -> Result<(), Fault>
+fn write_finished<O: Out>(alloc: Global, output: &mut O, run: &Finished) -> Result<(), NotDone>
     ensures { (workers : ℕ) → (script : Script) → (tables : Tables)
         → IsRanBy workers script tables run.now.transcript run.now.stop
         → AfterScript workers script tables (output_of (O.gone output.old) (O.failures output.old))
@@ -232,7 +232,7 @@ fn write_finished<O: Out>(alloc: Global, output: &mut O, run: &Finished) -> Resu
 {
     write(alloc, output, &run.transcript)?;
     match run.stop {
-        Some(stop) => Err(Fault::Stopped { stop }),
+        Some(stop) => Err(NotDone::Stopped { stop }),
         None => Ok(()),
     }
 }
@@ -246,7 +246,7 @@ fn run_with_store<O: Out, T: Threads + Wait + Sync>(
     script: &ScriptParts,
     workers: Workers,
     mut store: Store,
-) -> Result<(), Fault>
+) -> Result<(), NotDone>
     requires { AnswersAll store script.now }
     ensures { AfterScript workers.number script.now (and_drivers script.now.drivers store.tables)
         (output_of (O.gone output.old) (O.failures output.old))
@@ -274,7 +274,7 @@ fn run_script<O: Out, T: Threads + Wait + Sync>(
     output: &mut O,
     script: &Script,
     workers: Workers,
-) -> Result<(), Fault>
+) -> Result<(), NotDone>
     ensures { AfterScript workers.number script.now (tables_of script.now)
         (output_of (O.gone output.old) (O.failures output.old))
         (output_of (O.gone output.new) (O.failures output.new)) result }
@@ -331,7 +331,7 @@ fn run_read<O: Out, T: Threads + Wait + Sync>(
     output: &mut O,
     script: &Script,
     workers: u32,
-) -> Result<(), Fault>
+) -> Result<(), NotDone>
     requires { 0 < workers }
     // What is said of the script is so of every input that holds it.
     ensures { (input left : Bytes) → HoldsScript input left script.now
@@ -340,7 +340,7 @@ fn run_read<O: Out, T: Threads + Wait + Sync>(
         (streams_of left (O.gone output.new) (O.failures output.new)) result }
 {
     if let Some(step) = first_hand(script, workers) {
-        return Err(Fault::HandsBetween { step });
+        return Err(NotDone::HandsBetween { step });
     }
     run_script(rt, alloc, output, script, Workers { number: workers })
 }
@@ -366,7 +366,7 @@ pub fn run<R: Read, O: Out, T: Threads + Wait + Sync>(
     input: &mut R,
     output: &mut O,
     workers: u32,
-) -> Result<(), Fault>
+) -> Result<(), NotDone>
     requires { 0 < workers }
     ensures after { AfterRun workers (streams_of (R.remaining input.old) (O.gone output.old) (O.failures output.old))
         (streams_of (R.remaining input.new) (O.gone output.new) (O.failures output.new)) result }

@@ -36,7 +36,7 @@ ghost use Rattle.irpx.specs.CommandLine.{
   workers_in,
 };
 
-use crate::fault::{Fault, Phase};
+use crate::not_done::{NotDone, Phase};
 use crate::orders::Order;
 use clap::error::ErrorKind;
 use clap::{Arg, ArgAction, ArgMatches, Command, Error};
@@ -76,23 +76,23 @@ fn workers_in(text: &[u8]) -> Option<u32>
 }
 
 /// The order to run a script with the workers that the subcommand's matches name, or with one.
-fn run_of(matches: &ArgMatches<'_>) -> Result<Order, Fault>
+fn run_of(matches: &ArgMatches<'_>) -> Result<Order, NotDone>
     ensures run { result ≡ run_in (first_of (codes "workers") (rows_of (found_of matches.now))) }
     ensures range { MatchResult result
         (λ order. (workers : ℕ) × (order ≡ Order.Run workers) × (1 ≤ workers) × (workers ≤ 64))
-        (λ fault. fault ≡ Fault.Usage) }
+        (λ fault. fault ≡ NotDone.Usage) }
 {
     let Some(text) = matches.get_str("workers") else {
         return Ok(Order::Run { workers: 1 });
     };
     match workers_in(text.as_bytes()) {
         Some(workers) => Ok(Order::Run { workers }),
-        None => Err(Fault::Usage),
+        None => Err(NotDone::Usage),
     }
 }
 
 /// What clap's matches ask for.
-fn order_of(matches: &ArgMatches<'_>) -> Result<Order, Fault>
+fn order_of(matches: &ArgMatches<'_>) -> Result<Order, NotDone>
     ensures demo { (result ≡ Ok Order.Demo)
         ↔ (subcommand_name_of matches.now ≡ Some (codes "demo")) }
     ensures check { (result ≡ Ok Order.Check)
@@ -101,29 +101,29 @@ fn order_of(matches: &ArgMatches<'_>) -> Result<Order, Fault>
         → option_map (λ found. found.1) (subcommand_rows_of matches.now) ≡ Some rows
         → result ≡ run_in (first_of (codes "workers") rows) }
     ensures order { IfOk result IsOrder }
-    ensures usage { IfErr result (λ fault. fault ≡ Fault.Usage) }
+    ensures usage { IfErr result (λ fault. fault ≡ NotDone.Usage) }
 {
     let Some((name, inner)) = matches.subcommand() else {
-        return Err(Fault::Usage);
+        return Err(NotDone::Usage);
     };
     match name {
         "demo" => Ok(Order::Demo),
         "run" => run_of(inner),
         "check" => Ok(Order::Check),
-        _ => Err(Fault::Usage),
+        _ => Err(NotDone::Usage),
     }
 }
 
 /// Why clap refused the words.
-fn fault_of(error: &Error) -> Fault
-    ensures memory { (result ≡ Fault.NoMemory Phase.Starting)
+fn fault_of(error: &Error) -> NotDone
+    ensures memory { (result ≡ NotDone.NoMemory Phase.Starting)
         ↔ (kind_of error.now ≡ ErrorKind.OutOfMemory) }
     ensures usage { IsStartingFault result }
 {
     if error.kind() == ErrorKind::OutOfMemory {
-        Fault::NoMemory(Phase::Starting)
+        NotDone::NoMemory(Phase::Starting)
     } else {
-        Fault::Usage
+        NotDone::Usage
     }
 }
 
@@ -132,7 +132,7 @@ fn fault_of(error: &Error) -> Fault
 /// # Errors
 ///
 /// `Usage` for words that the program doesn't take, and for a request for help; `NoMemory` where memory ran out.
-pub fn order<'a, S: AsStr>(alloc: Global, words: &'a [S]) -> Result<Order, Fault>
+pub fn order<'a, S: AsStr>(alloc: Global, words: &'a [S]) -> Result<Order, NotDone>
     // No order comes of words in which clap finds a fault.
     ensures ok { OnOk result (clap_fault_of command_line (map S.text words.entry.now) ≡ []) }
     ensures order { IfOk result IsOrder }
@@ -142,7 +142,7 @@ pub fn order<'a, S: AsStr>(alloc: Global, words: &'a [S]) -> Result<Order, Fault
         → Finds name rows (map S.text words.entry.now) → AsksOrMemory name rows result }
 {
     let Ok(command) = command(alloc) else {
-        return Err(Fault::NoMemory(Phase::Starting));
+        return Err(NotDone::NoMemory(Phase::Starting));
     };
     match command.try_get_matches_from(words) {
         Ok(matches) => order_of(&matches),

@@ -3,8 +3,8 @@ use Rattle.std.proofs.Common.{ℕ, List, ◌++◌, length, length-append, Option
 use Rattle.std.proofs.lemmas.List.{take_rest}
 use Rattle.std.proofs.lemmas.Result.{err_from_is_err_and}
 use Rattle.irp_judge.specs.Judges.{seen}
-use Rattle.irp_text.specs.Fed.{Gives}
-use Rattle.irp_text.specs.declared.line.Line.{Line}
+use Rattle.irp_fast_reader.specs.Fed.{Gives}
+use Rattle.irp_fast_reader.specs.declared.line.Line.{Line}
 use Rattle.irp_view.specs.Feeding.{IsHopeless}
 use Rattle.irp_view.specs.declared.reading.Unread.{Unread}
 use Rattle.irp_view.proofs.Fed.{fits_within}

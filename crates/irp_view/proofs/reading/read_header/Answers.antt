@@ -1,7 +1,7 @@
 -- The first line is a header, or refused.
 use Rattle.std.proofs.Common.{ℕ, ◌≡◌, ◌≤◌, ◌-◌, List, ◌++◌, length, take, Option, Ok, sym, subst, ap, ◌∙◌, arith, append_assoc, length-take-le}
-use Rattle.irp_text.specs.Fed.{Gives, HasRead, with_line}
-use Rattle.irp_text.specs.declared.line.Line.{Line}
+use Rattle.irp_fast_reader.specs.Fed.{Gives, HasRead, with_line}
+use Rattle.irp_fast_reader.specs.declared.line.Line.{Line}
 use Rattle.irp_transcript.specs.Transcripts.{no_lines}
 use Rattle.irp_view.specs.Feeding.{IsSoFar, piece_of}
 use Rattle.irp_view.proofs.Fed.{both_pieces, few_so_far, so_far_end, so_far_on, starts_ended, starts_refused, starts_unhad}

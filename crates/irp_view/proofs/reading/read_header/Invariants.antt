@@ -1,7 +1,7 @@
 -- No line was read of what was taken so far.
 use Rattle.std.proofs.Common.{◌≡◌, ◌≤◌, ℕ, List, length}
 use Rattle.irp_transcript.specs.Transcripts.{no_lines}
-use Rattle.irp_text.specs.Fed.{HasRead}
+use Rattle.irp_fast_reader.specs.Fed.{HasRead}
 use Rattle.irp_view.specs.Reading.{most_bytes}
 use Rattle.irp_view.specs.Feeding.{IsSoFar}
 use Rattle.irp_view.proofs.reading.read_header.Given as goal

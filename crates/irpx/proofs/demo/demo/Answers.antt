@@ -6,11 +6,11 @@ use Rattle.irp_transcript_writer.specs.Lines.{lines, text_of}
 use Rattle.irpx.specs.Demo.{AfterDemo, IsDemoTranscript}
 use Rattle.irpx.specs.Streams.{Output}
 use Rattle.irpx.specs.Writing.{BreaksOff, Written}
-use Rattle.irpx.specs.declared.fault.Fault.{Fault}
+use Rattle.irpx.specs.declared.not_done.NotDone.{NotDone}
 use Rattle.irpx.proofs.Pieces.{keeps_itself}
 use Rattle.irpx.proofs.demo.demo.Goals as goal
 
-written_demo : {T : Type 0} (result : Result T Fault) (transcript : TranscriptValue) (before after : Output) → IsDemoTranscript transcript
+written_demo : {T : Type 0} (result : Result T NotDone) (transcript : TranscriptValue) (before after : Output) → IsDemoTranscript transcript
     → OnOk result (Written (text_of (lines transcript)) before after) → IfErr result (BreaksOff (text_of (lines transcript)) before after)
     → AfterDemo before after result
 written_demo (Ok done) transcript before after is written broke = (transcript, is, written)

@@ -3,8 +3,8 @@ use Rattle.std.proofs.Common.{ℕ, List, ◌++◌, Option, Ok, Err, sym, subst, 
 use Rattle.std.proofs.lemmas.List.{take_rest}
 use Rattle.std.proofs.lemmas.Result.{err_from_is_err_and}
 use Rattle.irp_judge.specs.Judges.{seen}
-use Rattle.irp_text.specs.Fed.{Gives}
-use Rattle.irp_text.specs.declared.line.Line.{Line}
+use Rattle.irp_fast_reader.specs.Fed.{Gives}
+use Rattle.irp_fast_reader.specs.declared.line.Line.{Line}
 use Rattle.irp_transcript_reader.specs.declared.read_fault.ReadFault.{ReadFault}
 use Rattle.irpx.proofs.Blocks.{IsWithin, fits_within, hopeless_within, kept_within, on_within}
 use Rattle.irpx.proofs.judging.judge_block.Goals as goal

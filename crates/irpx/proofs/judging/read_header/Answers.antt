@@ -1,7 +1,7 @@
 -- The first line is a header, or refused.
 use Rattle.std.proofs.Common.{ℕ, ◌≡◌, ◌≤◌, ◌-◌, List, ◌++◌, length, take, Option, Ok, inl, sym, subst, ap, ◌∙◌, arith, append_assoc, length-take-le}
-use Rattle.irp_text.specs.Fed.{Gives, HasRead, with_line}
-use Rattle.irp_text.specs.declared.line.Line.{Line}
+use Rattle.irp_fast_reader.specs.Fed.{Gives, HasRead, with_line}
+use Rattle.irp_fast_reader.specs.declared.line.Line.{Line}
 use Rattle.irp_transcript.specs.Transcripts.{no_lines}
 use Rattle.irpx.specs.Judging.{IsSoFar, piece_of}
 use Rattle.irpx.specs.Streams.{IsReadingFault}

@@ -1,7 +1,7 @@
 -- No line was read of what was taken so far.
 use Rattle.std.proofs.Common.{◌≡◌, ◌≤◌, ℕ, List, length}
 use Rattle.irp_transcript.specs.Transcripts.{no_lines}
-use Rattle.irp_text.specs.Fed.{HasRead}
+use Rattle.irp_fast_reader.specs.Fed.{HasRead}
 use Rattle.irpx.specs.Checking.{most_bytes}
 use Rattle.irpx.specs.Judging.{IsSoFar}
 use Rattle.irpx.proofs.judging.read_header.Given as goal

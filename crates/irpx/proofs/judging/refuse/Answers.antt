@@ -2,7 +2,7 @@
 use Rattle.std.proofs.Common.{ℕ, ◌≡◌, ◌<◌, List, ◌++◌, take, inl, sym, subst, arith, length-take-le}
 use Rattle.irpx.specs.Judging.{Fails, IsSoFar}
 use Rattle.irpx.specs.Streams.{IsReadingFault}
-use Rattle.irpx.specs.declared.fault.Fault.{Fault}
+use Rattle.irpx.specs.declared.not_done.NotDone.{NotDone}
 use Rattle.irpx.proofs.Blocks.{refused_fails, so_far_end, so_far_more, takes_more}
 use Rattle.irpx.proofs.judging.refuse.Goals as goal
 
@@ -17,7 +17,7 @@ returns-then-count-eq0 g c = λ old text so_far hopeless.
     let none : c.in-Ok.count ≡ 0 = grind arith in
     let ended : IsSoFar old (g.R.Read.remaining c.take_block.new.reader) c.loop-count.left (text ++ inv.0) =
     so_far_end old (g.R.Read.remaining c.loop-count.input) (g.R.Read.remaining c.take_block.new.reader) c.loop-count.left c.in-Ok.count (text ++ inv.0) c.take_block.new.buffer none inv.1 c.in-Ok.ensures.bytes in
-    subst (λ (given : Fault). Fails old (g.R.Read.remaining c.take_block.new.reader) given) (sym c.refusal.ensures)
+    subst (λ (given : NotDone). Fails old (g.R.Read.remaining c.take_block.new.reader) given) (sym c.refusal.ensures)
     (refused_fails c.args.fault old (g.R.Read.remaining c.take_block.new.reader) c.loop-count.left text inv.0 ended (c.in-Ok.ensures.end none) hopeless))
 
 pub loop-count-preserved : goal.loop-count-preserved

@@ -3,11 +3,11 @@ use Rattle.std.proofs.Common.{ℕ, None, Result, Ok, Err, inl, inr, refl, sym, r
 use Rattle.irp_script_reader.specs.declared.script.Script.{Script}
 use Rattle.irpx.specs.Running.{AfterRun, AfterScript, HandsFirst, tables_of}
 use Rattle.irpx.specs.Streams.{Streams, streams_of}
-use Rattle.irpx.specs.declared.fault.Fault.{Fault}
+use Rattle.irpx.specs.declared.not_done.NotDone.{NotDone}
 use Rattle.irpx.proofs.Pieces.{keeps_itself}
 use Rattle.irpx.proofs.running.run_read.Goals as goal
 
-was_run : {T : Type 0} (result : Result T Fault) (workers : ℕ) (before after : Streams) (script : Script) → HandsFirst workers None before after script
+was_run : {T : Type 0} (result : Result T NotDone) (workers : ℕ) (before after : Streams) (script : Script) → HandsFirst workers None before after script
     → AfterScript workers script (tables_of script) before.output after.output result → AfterRun workers before after result
 was_run (Ok done) workers before after script none ran = (script, none, ran)
 was_run (Err fault) workers before after script none ran = inr (inr (script, none, ran))

@@ -1,0 +1,37 @@
+//! The texts of scripts and transcripts, read and written.
+//!
+//! - [`read_script`] reads bytes as a script, or answers its first fault.
+//! - [`read_transcript`] reads bytes as a transcript, or answers the first line that is refused.
+//! - [`Reader`] reads a transcript, too, and is fed its bytes block after block; it gives each line as it ends.
+//! - [`Ahead`] is what several threads read of a block before its lines' turn; a [`Reader`] is quicker with it.
+//! - [`write_transcript`] writes a transcript, or answers how much of it went out.
+//!
+//! What was written is read again as the same: that is a law of the form of transcripts. So an entry of a line is
+//! guessed, and the guess is written: where what was written is the line, and the entry fits, the line is read as that
+//! entry (`entry_is_read`). Nothing is promised of a guess. Any other line is read as `irp_transcript_reader` does.
+#![tactic(auto)]
+
+mod ahead;
+mod fits;
+mod guess;
+mod guessed_calls;
+mod guessed_parts;
+mod guessed_questions;
+mod line;
+mod line_reader;
+mod read;
+mod reader;
+mod round_trip;
+mod scan;
+
+pub use ahead::{Ahead, count_threads};
+pub use irp_script_reader::{
+    Behaviour, CompletionRoutine, MemberFault, Named, Script, ScriptFault, ScriptForm, ScriptParts,
+    ScriptRefusal, Section, Step, StepAct, read_script,
+};
+pub use irp_transcript_reader::ReadFault;
+pub use irp_transcript_writer::{Cause, Failed, Out, WriteFault, WriterOut, write_transcript};
+pub use line::Line;
+pub use read::read_transcript;
+pub use reader::Reader;
+pub use round_trip::{read_again, written_is_read};

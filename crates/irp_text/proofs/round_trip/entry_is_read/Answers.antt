@@ -1,5 +1,0 @@
-use Rattle.irp_text.proofs.Whole.{entry_is_read}
-use Rattle.irp_text.proofs.round_trip.entry_is_read.Goals as goal
-
-pub returns : goal.returns
-returns c = entry_is_read

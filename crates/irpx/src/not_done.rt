@@ -1,0 +1,87 @@
+//! Why the program doesn't do what it is asked. All of it is this project's own command line, README.md.
+
+ghost use Rattle.std.specs.Prelude.{◌≡◌};
+ghost use Rattle.irpx.specs.Ending.{fault_status};
+
+use irp_script::Stop;
+use irp_script_reader::{MemberFault, ScriptRefusal, Section};
+use std::fmt;
+
+/// What the program is at.
+#[derive(Clone, Copy, PartialEq, Eq)]
+pub enum Phase {
+    /// Its words are taken.
+    Starting,
+    /// A script is read, or a transcript is read and judged.
+    Reading,
+    /// Calls are made, up to their transcript.
+    Running,
+    /// A transcript or a verdict is written.
+    Writing,
+}
+
+/// Why the program doesn't do what it is asked, or not to its end.
+#[derive(Clone, Copy)]
+pub enum NotDone {
+    /// The words are none that the program takes; a request for help is one of these.
+    Usage,
+    /// Memory ran out in this phase.
+    NoMemory(Phase),
+    /// The input failed. An interrupted read is a failed one, and so is an input with too many bytes.
+    Input,
+    /// The output failed.
+    Output,
+    /// The input's text is no script.
+    RefusedScript { refusal: ScriptRefusal },
+    /// The script's first step that hands a reference between seats of different workers.
+    HandsBetween { step: usize },
+    /// The input's text is no transcript: this line, from 1, is the first that is refused.
+    RefusedLine { line: u64 },
+    /// The seats kept other entries than the history has.
+    ReceiptsDiffer,
+    /// A worker stopped, here and for this reason. The transcript of what was recorded is written.
+    Stopped { stop: Stop },
+}
+
+impl NotDone {
+    /// The exit status.
+    pub fn status(self) -> u8
+        ensures { result ≡ fault_status self }
+    {
+        match self {
+            NotDone::RefusedScript { .. }
+            | NotDone::HandsBetween { .. }
+            | NotDone::RefusedLine { .. } => 1,
+            NotDone::ReceiptsDiffer => 2,
+            NotDone::NoMemory(_) | NotDone::Stopped { .. } => 3,
+            NotDone::Usage => 4,
+            NotDone::Input | NotDone::Output => 5,
+        }
+    }
+}
+
+/// The line for standard error, without its newline.
+impl fmt::Display for NotDone {
+    ghost use Rattle.irpx.specs.Ending.{complaint_of};
+
+    ghost output = { λ fault. complaint_of fault };
+
+    fn fmt<W: fmt::Write>(&self, f: &mut fmt::Formatter<W>) -> fmt::Result {
+        match self {
+            NotDone::RefusedScript { refusal } => write!(f, "irpx: script refused: {refusal}"),
+            NotDone::HandsBetween { step } => {
+                let refusal = ScriptRefusal::At {
+                    fault: MemberFault::BadField,
+                    section: Section::Steps,
+                    index: *step,
+                };
+                write!(f, "irpx: script refused: {refusal}")
+            }
+            NotDone::RefusedLine { line } => write!(f, "irpx: transcript refused: line {line}"),
+            NotDone::ReceiptsDiffer => f.write_str("irpx: receipts differ"),
+            NotDone::NoMemory(_) | NotDone::Stopped { .. } => f.write_str("irpx: out of memory"),
+            NotDone::Usage => f.write_str("irpx: usage: irpx demo, run [--workers N] or check"),
+            NotDone::Input | NotDone::Output => f.write_str("irpx: input or output failed"),
+        }
+    }
+}
