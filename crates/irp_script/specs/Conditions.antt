@@ -2,6 +2,7 @@
 use Rattle.std.specs.Prelude.{
   ℕ,
   ◌==◌,
+  ◌≡◌,
   Bool,
   true,
   false,
@@ -150,14 +151,23 @@ heard_at heard step = option_flatten (slice_get heard step)
 abbrev pub with_answer : Heard → ℕ → Answered → Heard
 with_answer heard step given = slice_set heard step (Some given)
 
--- the condition holds, by what steps were answered. Those of a `Script` name steps of their own seat
-abbrev pub passes : Heard → Condition → Bool
-passes heard condition = allows condition (heard_at heard condition.step)
+-- what the step that a condition names was answered. Those of a `Script` name steps of their own seat. None where
+-- nothing is named
+abbrev pub named_answer : Heard → Option Condition → Option Answered
+named_answer heard None = None
+named_answer heard (Some condition) = heard_at heard condition.step
 
--- what hangs on this is made: what hangs on nothing is, in any case
+-- what hangs on this is due, where the step that is named was answered so: what hangs on nothing is, in any case
+abbrev pub is_due : Option Condition → Option Answered → Bool
+is_due None answer = true
+is_due (Some condition) answer = allows condition answer
+
+abbrev pub IsDue : Option Condition → Option Answered → Type 0
+IsDue condition answer = is_due condition answer ≡ true
+
+-- what hangs on this is made, by what steps were answered
 abbrev pub holds : Heard → Option Condition → Bool
-holds heard None = true
-holds heard (Some condition) = passes heard condition
+holds heard condition = is_due condition (named_answer heard condition)
 
 -- nothing was heard yet of these steps. Where none has a condition, no answers are kept
 abbrev pub none_heard : List Step → Heard

@@ -136,22 +136,30 @@ pub fn allows(condition: Condition, answer: Option<Answered>) -> bool
     }
 }
 
-/// What the step of this place was answered. None where it wasn't made.
-fn heard_at(heard: &[Option<Answered>], step: u32) -> Option<Answered>
-    ensures { result ≡ spec.heard_at heard.now step }
+/// What the step that a condition names was answered. None where it wasn't made, or where nothing is named.
+pub fn named_answer(heard: &[Option<Answered>], condition: Option<Condition>) -> Option<Answered>
+    ensures { result ≡ spec.named_answer heard.now condition }
 {
-    match heard.get(step as usize) {
+    match heard.get(condition?.step as usize) {
         Some(answer) => *answer,
         None => None,
     }
 }
 
-/// Whether what hangs on this is made, by what steps were answered: what hangs on nothing is, in any case.
-pub fn holds(heard: &[Option<Answered>], condition: Option<Condition>) -> bool
-    ensures { result ≡ spec.holds heard.now condition }
+/// Whether what hangs on this is made, where the step that is named was answered so: what hangs on nothing is, in any
+/// case.
+fn is_due(condition: Option<Condition>, answer: Option<Answered>) -> bool
+    ensures { result ≡ spec.is_due condition answer }
 {
     match condition {
         None => true,
-        Some(condition) => allows(condition, heard_at(heard, condition.step)),
+        Some(condition) => allows(condition, answer),
     }
+}
+
+/// Whether what hangs on this is made, by what steps were answered.
+pub fn holds(heard: &[Option<Answered>], condition: Option<Condition>) -> bool
+    ensures { result ≡ spec.holds heard.now condition }
+{
+    is_due(condition, named_answer(heard, condition))
 }

@@ -1,13 +1,33 @@
 //! What is called when workers begin and end a step. Source: this project's own rule.
 
-/// Called when a step begins and when it was answered. It may wait, to order the steps of different workers. Both
-/// calls come outside the session's lock.
+ghost use Rattle.irp_script.specs.Conditions.{IsDue};
+
+use crate::answered::Answered;
+use irp_script_reader::Condition;
+
+/// A step that a worker makes next.
+#[derive(Clone, Copy)]
+pub struct Due {
+    /// The seat that makes it.
+    pub seat: u32,
+    /// Its place among the script's steps, from 0.
+    pub step: u32,
+    /// What it hangs on. None where it hangs on nothing.
+    pub condition: Option<Condition>,
+    /// What the step that its condition names was answered. None where it hangs on nothing.
+    pub answer: Option<Answered>,
+}
+
+/// Called when a step begins and when it was answered: only for a step that hangs on nothing, or whose condition holds.
+/// It may wait, to order the steps of different workers. Both calls come outside the session's lock.
 pub trait Gate {
-    /// A step of this seat begins: its place among the script's steps, from 0.
-    fn enter(&self, seat: u32, step: u32);
+    /// A step begins.
+    fn enter(&self, due: Due)
+        requires { IsDue due.condition due.answer };
 
     /// The step was answered, or wasn't recorded.
-    fn answered(&self, seat: u32, step: u32);
+    fn answered(&self, due: Due)
+        requires { IsDue due.condition due.answer };
 }
 
 /// A gate that lets each step begin at once.
@@ -15,11 +35,11 @@ pub trait Gate {
 pub struct AlwaysOpen;
 
 impl Gate for AlwaysOpen {
-    fn enter(&self, seat: u32, step: u32) {
-        let _ = (seat, step);
+    fn enter(&self, due: Due) {
+        let _ = due;
     }
 
-    fn answered(&self, seat: u32, step: u32) {
-        let _ = (seat, step);
+    fn answered(&self, due: Due) {
+        let _ = due;
     }
 }

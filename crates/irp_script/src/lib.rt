@@ -28,7 +28,7 @@ pub use answered::Answered;
 pub use behaviours::{cancel_rule, table_answer, table_cancel, table_plan};
 pub use between::hand_between;
 pub use conditions::{allows, expects, expects_reply, expects_word};
-pub use gate::{AlwaysOpen, Gate};
+pub use gate::{AlwaysOpen, Due, Gate};
 /// Whether a history is legal: `irp_judge` judges it.
 pub use irp_judge::{Verdict, check};
 pub use labels::{UNBOUND, label_of, packet_of};

@@ -245,11 +245,12 @@ fn gather<'a, L: Session>(
 /// stands for what it stands for at that moment, of which no clause speaks. A step whose seat isn't there, one whose
 /// call isn't recorded, a hand to a seat that its worker doesn't have, and a publish or a
 /// withdraw in a slot of another seat stops its worker, which says so; in the setup, nothing more is run. The gate is
-/// called before and after each of the script's `steps`, with its seat and its place, outside the session's lock
-/// (tests show it, no clause). A step of the setup on a lock or a slot, which no `Script` has, has no word line.
+/// called before and after each of the script's `steps` that is made, with its seat and its place, outside the session's
+/// lock (tests show it, no clause). A step of the setup on a lock or a slot, which no `Script` has, has no word line.
 ///
-/// A step whose condition fails is passed over: nothing is done, and the gate isn't called. Answers are kept, by the
-/// places of `steps`, only where one of `steps` has a condition; those of the setup aren't, so there each condition fails.
+/// A step whose condition fails is passed over: nothing is done, and the gate isn't called (its contract says so).
+/// Answers are kept, by the places of `steps`, only where one of `steps` has a condition; those of the setup aren't, so
+/// there each condition fails.
 ///
 /// All remove seats were opened with these locks, and all that the seats have at slots with these slots, which are the
 /// conditions of this call.

@@ -42,11 +42,12 @@ ghost use Rattle.irp_script.specs.Working.{
   if_own,
   news,
 };
+ghost use Rattle.irp_script.specs.Conditions.{holds};
 ghost use Rattle.irp_script.specs.StepKinds.{kind_of};
 
 use crate::answered::Answered;
-use crate::conditions::holds;
-use crate::gate::Gate;
+use crate::conditions::{holds, named_answer};
+use crate::gate::{Due, Gate};
 use crate::heard::keep;
 use crate::meeting::Meeting;
 use crate::run_context::RunContext;
@@ -198,6 +199,7 @@ impl<'a, L: Session> Worker<'a, L> {
         index: u32,
         step: Step,
     ) -> Result<(), StopReason>
+        requires { holds (work_of self.old).heard step.condition ≡ true }
         ensures same { IsSameWorker self.old self.new }
         ensures made { MatchResult result
             (λ _. Makes L.fixed.locks index step (work_of self.old) (work_of self.new))
@@ -237,6 +239,7 @@ impl<'a, L: Session> Worker<'a, L> {
         index: usize,
         step: Step,
     ) -> Result<(), StopReason>
+        requires { holds (work_of self.old).heard step.condition ≡ true }
         ensures same { IsSameWorker self.old self.new }
         ensures made { MatchResult result
             (λ _. Makes L.fixed.locks index step (work_of self.old) (work_of self.new))
@@ -246,9 +249,15 @@ impl<'a, L: Session> Worker<'a, L> {
         let Ok(index) = u32::try_from(index) else {
             return Err(StopReason::TooManySteps);
         };
-        gate.enter(step.seat, index);
+        let due = Due {
+            seat: step.seat,
+            step: index,
+            condition: step.condition,
+            answer: named_answer(self.heard.as_slice(), step.condition),
+        };
+        gate.enter(due);
         let made = self.step(rt, context, index, step);
-        gate.answered(step.seat, index);
+        gate.answered(due);
         made
     }
 

@@ -3,7 +3,7 @@
 
 use super::{ALLOCATE, CREATE, by, worked};
 use crate::outcome::{NO_MEMORY, Outcome, holds};
-use irp_script::Gate;
+use irp_script::{Due, Gate};
 use std::alloc::Global;
 use std::sync::Wait;
 use std::sync::atomic::{AtomicBool, AtomicU64, Ordering};
@@ -31,9 +31,8 @@ fn waits(count: &AtomicU64, until: u64) -> bool {
 }
 
 impl Gate for Meeting {
-    fn enter(&self, seat: u32, step: u32) {
-        let _ = step;
-        let (own, other) = if seat == 0 {
+    fn enter(&self, due: Due) {
+        let (own, other) = if due.seat == 0 {
             (&self.first, &self.second)
         } else {
             (&self.second, &self.first)
@@ -44,8 +43,8 @@ impl Gate for Meeting {
         }
     }
 
-    fn answered(&self, seat: u32, step: u32) {
-        let _ = (seat, step);
+    fn answered(&self, due: Due) {
+        let _ = due;
     }
 }
 

@@ -2,7 +2,7 @@
 
 use super::{ALLOCATE, CREATE, LOCK, LOOK, by, worked};
 use crate::outcome::{NO_MEMORY, Outcome, holds, number};
-use irp_script::{AlwaysOpen, Gate, Stop, StopReason};
+use irp_script::{AlwaysOpen, Due, Gate, Stop, StopReason};
 use irp_script_reader::{Condition, ExpectedAnswer, Step, StepAct};
 use irp_shared::{WordLine, WordReply};
 use irp_types::LockAct;
@@ -88,15 +88,15 @@ impl Turns {
 }
 
 impl Gate for Turns {
-    fn enter(&self, seat: u32, step: u32) {
+    fn enter(&self, due: Due) {
         let begun = self.begun.fetch_add(1, Ordering::SeqCst);
-        self.called(seat, step, begun, self.answered.load(Ordering::SeqCst));
+        self.called(due.seat, due.step, begun, self.answered.load(Ordering::SeqCst));
     }
 
-    fn answered(&self, seat: u32, step: u32) {
+    fn answered(&self, due: Due) {
         let answered = self.answered.fetch_add(1, Ordering::SeqCst);
         let begun = self.begun.load(Ordering::SeqCst);
-        self.called(seat, step, begun.wrapping_sub(1), answered);
+        self.called(due.seat, due.step, begun.wrapping_sub(1), answered);
     }
 }
 
