@@ -90,7 +90,12 @@ impl Turns {
 impl Gate for Turns {
     fn enter(&self, due: Due) {
         let begun = self.begun.fetch_add(1, Ordering::SeqCst);
-        self.called(due.seat, due.step, begun, self.answered.load(Ordering::SeqCst));
+        self.called(
+            due.seat,
+            due.step,
+            begun,
+            self.answered.load(Ordering::SeqCst),
+        );
     }
 
     fn answered(&self, due: Due) {
