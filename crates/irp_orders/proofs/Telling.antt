@@ -1,6 +1,6 @@
 -- Conditions that no right end meets.
 use Rattle.std.proofs.Common.{◌≡◌, ◌∙◌, ◌/◌, ◌≤◌, ℕ, Bool, true, false, List, Option, Some, None, All, map, nat_lt, refl, sym, ap, subst, arith}
-use Rattle.std.specs.Prelude.{slice_get}
+use Rattle.std.specs.Prelude.{Err, IfOk, IfSome, Ok, Result, String, slice_get, string_bytes}
 use Rattle.std.specs.List.{find, position_or_len}
 use Rattle.std.specs.Option.{option_map}
 use Rattle.std.proofs.lemmas.List.Elements.{All-get_or}
@@ -21,6 +21,7 @@ use Rattle.irp_condition.specs.declared.condition.Fact.{Fact}
 use Rattle.irp_condition.specs.declared.condition.Fact.TheVariants as fact
 use Rattle.irp_condition.specs.declared.condition.Term.TheVariants as term
 use Rattle.irp_condition.specs.declared.facts.Facts.{Facts}
+use Rattle.irp_condition.specs.declared.scope.Scope.{Scope}
 use Rattle.irp_condition.specs.declared.value.Value.TheVariants as value
 use Rattle.irp_machine.specs.declared.live_end.LiveEnd.{LiveEnd}
 use Rattle.irp_machine.specs.declared.outcome.End.{End}
@@ -28,11 +29,11 @@ use Rattle.irp_machine.specs.declared.outcome.LockEnd.{LockEnd}
 use Rattle.irp_plain.specs.declared.answered.Answered.{Answered}
 use Rattle.irp_plain.specs.declared.answered.Answered.TheVariants as answered
 use Rattle.irp_script_reader.specs.declared.act.Step.{Step}
+use Rattle.irp_script_reader.specs.declared.script.ScriptParts.{ScriptParts}
+use Rattle.irp_orders.specs.Conditions.{IsScopeOf}
 use Rattle.irp_orders.specs.Facts.{Meets, answers_of, facts_of, live_of, names, packet_of, seen_of}
 use Rattle.irp_orders.specs.Right.{IsAccepted, IsBack, IsReleased, IsRight, is_device, is_refused}
-use Rattle.irp_orders.specs.Such.{HasNoWrong, IsOfWrong, TellsWrong, fact_of, is_wrong}
-use Rattle.irp_orders.specs.declared.such.Topic.{Topic}
-use Rattle.irp_orders.specs.declared.such.Topic.TheVariants as topic
+use Rattle.irp_orders.specs.Such.{IsOfWrong, IsSaid, IsSuch, TellsWrong, is_wrong}
 
 at_place : {X : Type 0} (P : X → Type 0) (xs : List X) (place : ℕ) (x : X) → All P xs → slice_get xs place ≡ Some x → P x
 at_place P xs place x all is =
@@ -154,24 +155,22 @@ wrong_met steps end (Compare (term.Fact fact) Equal (term.Constant value)) of_wr
       fact_wrong steps setup other fact (ap (is_wrong fact) met ∙ of_wrong.0),
 )
 
--- ---- that nothing is wrong
+-- a text that says such a condition of these facts
+such_said : (script : ScriptParts) (end : End) (scope : Scope) (text : List ℕ) → IsScopeOf script true scope
+    → IsSaid scope (facts_of script.steps end) text → IsSuch script end text
+such_said script end scope text of_script said = record {
+  condition = said.condition;
+  says = record { scope = scope; of_script = of_script; said = said.said };
+  met = (wrong_met script.steps end said.condition said.wrong).0;
+  wrong = (wrong_met script.steps end said.condition said.wrong).1;
+}
 
-pub missing_right : (topic : Topic) (place : ℕ) → is_wrong (fact_of topic place) value.Missing ≡ false
-missing_right topic.Reply place = refl
-missing_right topic.Owner place = refl
-missing_right topic.Held place = refl
-
-pub none_wrong : (facts : Facts)
-    → ((topic : Topic) (place : ℕ) → is_wrong (fact_of topic place) (value_of facts (fact_of topic place)) ≡ false)
-    → HasNoWrong facts
-none_wrong facts none (fact.Reply step) = none topic.Reply step
-none_wrong facts none (fact.Owner label) = none topic.Owner label
-none_wrong facts none (fact.Held lock) = none topic.Held lock
-none_wrong facts none (fact.Made step) = refl
-none_wrong facts none (fact.Status label) = refl
-none_wrong facts none (fact.Information label) = refl
-none_wrong facts none (fact.Current label) = refl
-none_wrong facts none (fact.Cancel label) = refl
-none_wrong facts none (fact.Live label) = refl
-none_wrong facts none (fact.Deleted device) = refl
-none_wrong facts none (fact.Removing lock) = refl
+pub such_told : {Z E : Type 0} (script : ScriptParts) (end : End) (scope : Scope) (facts : Facts) (result : Result (Option (String Z)) E)
+    → IsScopeOf script true scope → facts ≡ facts_of script.steps end
+    → IfOk result (λ told. IfSome told (λ text. IsSaid scope facts (string_bytes text)))
+    → IfOk result (λ told. IfSome told (λ text. IsSuch script end (string_bytes text)))
+such_told script end scope facts (Err error) of_script are said = tt
+such_told script end scope facts (Ok None) of_script are said = tt
+such_told script end scope facts (Ok (Some text)) of_script are said =
+    such_said script end scope (string_bytes text) of_script
+    (subst (λ (facts : Facts). IsSaid scope facts (string_bytes text)) are said)

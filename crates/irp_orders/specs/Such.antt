@@ -60,6 +60,10 @@ fact_of topic.Reply place = fact.Reply place
 fact_of topic.Owner place = fact.Owner place
 fact_of topic.Held place = fact.Held place
 
+-- that fact is one that a right end may have
+abbrev pub IsRightAt : Facts → Topic → ℕ → Type 0
+IsRightAt facts topic place = is_wrong (fact_of topic place) (value_of facts (fact_of topic place)) ≡ false
+
 -- ---- what is told
 
 -- a text says such a condition
@@ -81,7 +85,7 @@ pub record IsSuch (script : ScriptParts) (end : End) (text : List ℕ) : Type 0 
 
 -- no step was refused, no device has the packet of a label, and no remove lock is held
 abbrev pub HasNoWrong : Facts → Type 0
-HasNoWrong facts = (fact : Fact) → is_wrong fact (value_of facts fact) ≡ false
+HasNoWrong facts = (topic : Topic) (place : ℕ) → IsRightAt facts topic place
 
 -- some such fact is there, and no text says it
 pub record IsUnsayable (script : ScriptParts) (facts : Facts) : Type 0 where

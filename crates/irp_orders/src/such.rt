@@ -10,6 +10,7 @@ ghost use Rattle.irp_orders.specs.Such.{
   HasNoSuch,
   HasNoWrong,
   IsOfWrong,
+  IsRightAt,
   IsSaid,
   IsSuch,
   PutsSuch,
@@ -102,8 +103,8 @@ fn is_wrong(fact: Fact, value: Value) -> bool
 fn first_wrong(facts: &Facts, topic: Topic) -> Result<Option<Condition>, AllocError>
     ensures some { IfOk result (λ found. IfSome found (λ condition.
         IsOfWrong facts.now (formula_of condition))) }
-    ensures none { IfOk result (λ found. found ≡ None → (place : ℕ)
-        → spec.is_wrong (fact_of topic place) (value_of facts.now (fact_of topic place)) ≡ false) }
+    ensures none { IfOk result (λ found. found ≡ None
+        → (place : ℕ) → IsRightAt facts.now topic place) }
 {
     for place in 0..u32::MAX {
         let Some(value) = value_at(facts, topic, place) else {
