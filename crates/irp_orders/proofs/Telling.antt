@@ -1,5 +1,5 @@
 -- Conditions that no right end meets.
-use Rattle.std.proofs.Common.{◌≡◌, ◌∙◌, ◌/◌, ◌≤◌, ℕ, Bool, true, false, List, Option, Some, None, All, map, nat_lt, refl, sym, ap, subst, arith}
+use Rattle.std.proofs.Common.{◌≡◌, ◌∙◌, ◌/◌, ◌≤◌, ℕ, Bool, true, false, List, Option, Some, None, All, nat_lt, refl, sym, ap, subst, arith}
 use Rattle.std.specs.Prelude.{Err, IfOk, IfSome, Ok, Result, String, slice_get, string_bytes}
 use Rattle.std.specs.List.{find, position_or_len}
 use Rattle.std.specs.Option.{option_map}

@@ -11,11 +11,7 @@ use irp_script_reader::Script;
 use std::alloc::Global;
 
 /// What conditions on a script may speak of, by these names of values. None where it has 2^32 steps or more.
-pub fn scope_of<'a>(
-    script: &'a Script,
-    names: &'a Names,
-    knows_replies: bool,
-) -> Option<Scope<'a>>
+pub fn scope_of<'a>(script: &'a Script, names: &'a Names, knows_replies: bool) -> Option<Scope<'a>>
     requires statuses { All IsStatusNamed names.now.statuses.items }
     requires refusals { All IsRefusalNamed names.now.refusals.items }
     ensures { IfSome result (IsScopeOf script.now knows_replies) }

@@ -20,8 +20,10 @@ ghost use Rattle.irp_orders.specs.Such.{
 use crate::conditions::scope_of;
 use crate::facts::facts_of;
 use crate::names::value_names;
-use irp_condition::{Answer, Comparison, Condition, Fact, Facts, Scope, Term, Unread, Value};
-use irp_condition::{holds, read_condition, text_of, told_value};
+use irp_condition::{
+    Answer, Comparison, Condition, Fact, Facts, Scope, Term, Unread, Value, holds, read_condition,
+    text_of, told_value,
+};
 use irp_listing::put_line;
 use irp_machine::End;
 use irp_script_reader::Script;
@@ -98,8 +100,8 @@ fn is_wrong(fact: Fact, value: Value) -> bool
     }
 }
 
-/// The condition that the first fact of this topic is as it is that no right end has. The one error is want of memory,
-/// also where there are 2^32 places.
+/// The first fact of this topic that no right end has, as a condition: it is what it is. None where there is none. The
+/// one error is want of memory; it comes too where there are 2^32 places.
 fn first_wrong(facts: &Facts, topic: Topic) -> Result<Option<Condition>, AllocError>
     ensures some { IfOk result (λ found. IfSome found (λ condition.
         IsOfWrong facts.now (formula_of condition))) }
@@ -161,7 +163,11 @@ fn said(
 {
     let text = text_of(alloc, condition, scope)?;
     match read_condition(alloc, text.as_str(), scope) {
-        Ok(read) => Ok(if tells_wrong(facts, &read) { Some(text) } else { None }),
+        Ok(read) => Ok(if tells_wrong(facts, &read) {
+            Some(text)
+        } else {
+            None
+        }),
         Err(Unread::NoMemory) => Err(AllocError),
         Err(Unread::Fault(_)) => Ok(None),
     }
