@@ -26,8 +26,8 @@ MANY = 200  # decisions of a run, from which on a test is told to be made smalle
 # The pieces of the host's own test (host/overlaps.c).
 SCENARIOS = {"overlap": "a read and a write at once", "cancel": "a read that is cancelled meanwhile",
              "power": "power goes and comes while a read is under way",
-             "remove": "the device is removed while it holds a read",
-             "surprise": "the device is gone while it holds a read"}
+             "remove": "the device is removed while it holds reads",
+             "surprise": "the device is gone while it holds reads"}
 
 
 @functools.lru_cache
