@@ -87,9 +87,16 @@ def held_at_removal(bench):
         yield f"reads are ended by a removal, {name}", NO_COMPLAINT if not status and "FAULT" not in said else said[-900:]
 
 
+def with_its_flag(bench):
+    """Gives a complaint where a driver that sets DO_BUFFERED_IO has no system buffer. Without it hostile/ tells that."""
+    said, status = run(bench, "--cflag=-DRIGHT", HERE + "/hostile/has_no_buffer.c")
+    yield "a read has a system buffer by DO_BUFFERED_IO", NO_COMPLAINT if not status else said[-900:]
+
+
 def tests(bench):
     """Returns the tests: of each a name, and a call that gives names and complaints."""
     return [("own test, mistakes", lambda: mistakes(bench)), ("own test, samples", lambda: samples(bench)),
             ("own test, held at removal", lambda: held_at_removal(bench)),
+            ("own test, a buffer's flag", lambda: with_its_flag(bench)),
             ("own test, children", lambda: children(bench)),
             *((f"own test, stack {it}", lambda it=it: silent(bench, it)) for it in planted.FOR_OWN_TEST)]
