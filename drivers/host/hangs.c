@@ -131,7 +131,7 @@ void hang(Woken why, unsigned long began, WDM_SITE at)
             if (is_cancelled_and_held(packets[i]))
                 tell_cancelled_and_held(packets[i]);
         tell_in_flight(text, sizeof text);
-        fault("Hang", NULL, why == OVERDUE ? "waits, and no thread ends the wait, while others go on; %s" :
+        fault("Hang", NULL, why == OVERDUE ? "waits, and no thread ends the wait, while other threads go on; %s" :
               "waits, and no thread will end the wait; %s", text);
     }
     const bool goes_on = complete_lost();
