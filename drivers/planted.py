@@ -333,6 +333,9 @@ STOPPED = "STOPPED: "
 HOSTILE = {
     "touches_null": [STOPPED + "it touches what is no memory at address 0x10",
                      "at touches_null.c:6 in Helper, called at touches_null.c:10 in Read"],
+    "has_no_buffer": [STOPPED + "it touches what is no memory at address 0, at has_no_buffer.c:8 in Read",
+                      "(READ) has no MdlAddress and no SystemBuffer, because D0 (has_no_buffer) doesn't set DO_BUFFERED_IO or "
+                      "DO_DIRECT_IO"],
     "calls_no_function": [STOPPED + "there is no function at address 0x10", "at calls_no_function.c:8 in Read"],
     "has_a_bad_dispatch": [STOPPED + "there is no function at address 0x1234",
                            "0x1234, which is no function), dispatch for WRITE of D0 (has_a_bad_dispatch)"],
