@@ -26,8 +26,8 @@ of_verdict (verdict.Illegal at) = Illegal
 
 -- ---- what an ending is seen by
 
--- the exit status of a fault: of a text that is refused, of receipts that differ, of memory that ran out, of other
--- words, and of a stream that failed
+-- the exit status of a fault: of a text that is refused, of receipts that differ, of memory that ran out or a
+-- transcript that doesn't fit, of other words, and of a stream that failed
 abbrev pub fault_status : NotDone → ℕ
 fault_status (fault.RefusedScript refusal) = 1
 fault_status (fault.HandsBetween step) = 1
@@ -35,6 +35,7 @@ fault_status (fault.RefusedLine line) = 1
 fault_status fault.ReceiptsDiffer = 2
 fault_status (fault.NoMemory phase) = 3
 fault_status (fault.Stopped stop) = 3
+fault_status (fault.Unfit unfit) = 3
 fault_status fault.Usage = 4
 fault_status fault.Input = 5
 fault_status fault.Output = 5
@@ -46,7 +47,7 @@ status_of Illegal = 2
 status_of (Faulty told) = fault_status told
 
 -- a fault's line for standard error, without its newline, where it is known: that of a refused script ends with the
--- refusal's text
+-- refusal's text, and that of a transcript that doesn't fit with the part's
 abbrev pub complaint_of : NotDone → Option (List ℕ)
 complaint_of (fault.RefusedScript refusal) = None
 complaint_of (fault.HandsBetween step) = None
@@ -54,6 +55,7 @@ complaint_of (fault.RefusedLine line) = Some (codes "irpx: transcript refused: l
 complaint_of fault.ReceiptsDiffer = Some (codes "irpx: receipts differ")
 complaint_of (fault.NoMemory phase) = Some (codes "irpx: out of memory")
 complaint_of (fault.Stopped stop) = Some (codes "irpx: out of memory")
+complaint_of (fault.Unfit unfit) = None
 complaint_of fault.Usage = Some (codes "irpx: usage: irpx demo, run [--workers N] or check")
 complaint_of fault.Input = Some (codes "irpx: input or output failed")
 complaint_of fault.Output = Some (codes "irpx: input or output failed")
