@@ -14,19 +14,19 @@ use irp_transcript::{Act, Header, WordLine};
 use irp_transcript_writer::Written;
 use irp_types::Entry;
 
-/// A value that a line tells.
+/// What a line of a transcript is written of.
 pub trait Fitting: Written {
-    /// What must hold of the value under the header, beside that its line is short.
+    /// What must hold of the value under the header, so that it fits, beside that its line is short.
     ghost told: { Header → Self → Type 0 };
 
-    /// What of a transcript doesn't fit where the value at this place doesn't.
+    /// The part of a transcript that doesn't fit where the value at this place doesn't.
     ghost unfit: { ℕ → Unfit };
 
-    /// Whether the value is told.
+    /// Whether that holds.
     fn is_told(&self, header: &Header) -> bool
         ensures { result ≡ true ↔ told header.now self.now };
 
-    /// What of a transcript doesn't fit where the value at this place doesn't.
+    /// The part of a transcript that doesn't fit where the value at this place doesn't.
     fn unfit(place: usize) -> Unfit
         ensures { result ≡ unfit place };
 }

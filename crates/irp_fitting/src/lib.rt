@@ -4,6 +4,8 @@
 mod fits;
 mod fitting;
 mod forms;
+#[cfg(test)]
+mod tests;
 mod unfit;
 mod write;
 

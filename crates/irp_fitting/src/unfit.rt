@@ -1,8 +1,8 @@
-//! Why a transcript isn't written. Source: this project's own rules.
+//! Why a transcript isn't written to its end. Source: this project's own rules.
 
 use std::fmt;
 
-/// What of a transcript would not be read again as the same: the first such part.
+/// The first part of a transcript that doesn't fit, so that it would not be read again as the same.
 #[derive(Clone, Copy, Debug, PartialEq, Eq)]
 pub enum Unfit {
     /// The entries: there are more than 1,000,000.
@@ -15,11 +15,11 @@ pub enum Unfit {
     Word { place: usize },
 }
 
-/// The part, as a message names it.
+/// The part, as it stands in a message.
 impl fmt::Display for Unfit {
     fn fmt<W: fmt::Write>(&self, f: &mut fmt::Formatter<W>) -> fmt::Result {
         match self {
-            Unfit::TooMany => f.write_str("entry 1000000"),
+            Unfit::TooMany => f.write_str("more than 1000000 entries"),
             Unfit::Header => f.write_str("header"),
             Unfit::Entry { place } => write!(f, "entry {place}"),
             Unfit::Word { place } => write!(f, "word line {place}"),

@@ -23,7 +23,8 @@ fn put_line<O: Out, T: Fitting>(
     value: &T,
     place: usize,
 ) -> Result<(), Unwritten>
-    ensures puts { PutsLine (T.told header.now) T.json (T.unfit place) value.now (O.gone out.old) (O.gone out.new) result }
+    ensures puts { PutsLine (T.told header.now) T.json (T.unfit place) value.now
+        (O.gone out.old) (O.gone out.new) result }
     ensures counts { Counts (O.failures out.old) (O.failures out.new) result }
 {
     if !value.is_told(header) {
@@ -52,7 +53,8 @@ fn put_lines<O: Out, T: Fitting>(
     header: &Header,
     values: &[T],
 ) -> Result<(), Unwritten>
-    ensures puts { PutsLines (T.told header.now) T.json T.unfit values.now (O.gone out.old) (O.gone out.new) result }
+    ensures puts { PutsLines (T.told header.now) T.json T.unfit values.now
+        (O.gone out.old) (O.gone out.new) result }
     ensures counts { Counts (O.failures out.old) (O.failures out.new) result }
 {
     for place in 0..values.len() {

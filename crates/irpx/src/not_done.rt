@@ -42,7 +42,7 @@ pub enum NotDone {
     ReceiptsDiffer,
     /// A worker stopped, here and for this reason. The transcript of what was recorded is written.
     Stopped { stop: Stop },
-    /// The transcript would not be read again as the same: this is the first part of it that doesn't fit.
+    /// This is the first part of the transcript that doesn't fit: it would not be read again as the same.
     Unfit { unfit: Unfit },
 }
 

@@ -1,0 +1,83 @@
+//! What no clause shows: a transcript that fits is written whole.
+
+use crate::unfit::{Unfit, Unwritten};
+use crate::write::write_fitting;
+use irp_transcript::{Form, Header, Transcript};
+use irp_transcript_writer::WriterOut;
+use irp_types::{Call, Entry, IrpRef, Known, Questions, Refusal, Reply, Row};
+use std::alloc::{AllocError, Global};
+use std::test::Fail;
+
+/// The header, and entry 0 (docs/FORMATS.md).
+static HEAD: &[u8] =
+    b"{\"cancels\":[],\"completions\":[0,0,0,0,0],\"dispatches\":[],\"drivers\":[],\"form\":1,\"locks\":1,\"seats\":1}
+{\"asked\":[],\"call\":{\"do\":\"look\",\"irp\":[0,1]},\"n\":0,\"reply\":{\"refused\":\"NoIrp\"},\"seat\":0}
+";
+
+/// Entry 1, a look at a packet in the last slot that fits.
+static LAST: &[u8] =
+    b"{\"asked\":[],\"call\":{\"do\":\"look\",\"irp\":[4294967295,1]},\"n\":1,\"reply\":{\"refused\":\"NoIrp\"},\"seat\":0}
+";
+
+/// The header of a session with one lock, one seat and no closures.
+fn header(alloc: Global) -> Header {
+    Header {
+        cancels: Row::from_vec(Vec::new(alloc)),
+        completions: Known::NONE,
+        dispatches: Row::from_vec(Vec::new(alloc)),
+        drivers: Row::from_vec(Vec::new(alloc)),
+        form: Form::One,
+        locks: 1,
+        seats: 1,
+    }
+}
+
+/// The entry of a look at the first use of a packet in a slot that is empty.
+fn look(alloc: Global, number: u64, slot: usize) -> Entry {
+    Entry {
+        number,
+        call: Call::Look {
+            irp: IrpRef { slot, use_no: 1 },
+        },
+        asked: Questions::from_vec(Vec::new(alloc)),
+        reply: Reply::Refused(Refusal::NoIrp),
+        seat: 0,
+        lock: None,
+        drained: false,
+    }
+}
+
+/// Looks at slot 0 and at this slot.
+fn looks(alloc: Global, slot: usize) -> Result<Row<Entry>, AllocError> {
+    let mut entries = Vec::new(alloc);
+    entries.push(look(alloc, 0, 0))?;
+    entries.push(look(alloc, 1, slot))?;
+    Ok(Row::from_vec(entries))
+}
+
+#[test]
+fn lines_go_out_up_to_a_slot_of_33_bits(rt: HostRuntime) -> Result<(), Fail> {
+    let alloc = rt.alloc();
+    let last = u32::MAX as usize;
+    let unfit = Err(Unwritten::Unfit(Unfit::Entry { place: 1 }));
+    for (slot, tail, want) in [(last, LAST, Ok(())), (last + 1, b"", unfit)] {
+        let header = header(alloc);
+        assert!(rt; header.is_accepted());
+        let transcript = Transcript::new(
+            header,
+            looks(alloc, slot)?,
+            Row::from_vec(Vec::new(alloc)),
+        );
+        let mut bytes = Vec::new(alloc);
+        let mut out = WriterOut::new(&mut bytes);
+        assert_eq!(rt;
+            write_fitting(alloc, &mut out, &transcript),
+            want,
+            "at slot {slot}"
+        );
+        let mut text = HEAD.to_vec(alloc)?;
+        text.extend_from_slice(tail)?;
+        assert_eq!(rt; bytes, text, "at slot {slot}");
+    }
+    Ok(())
+}
