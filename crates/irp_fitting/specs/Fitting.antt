@@ -1,5 +1,6 @@
 -- What goes out of a transcript: all of it where it fits, and else the lines before the first that doesn't.
-use Rattle.std.specs.Prelude.{ℕ, ◌≡◌, ◌+◌, ◌<◌, List, [], length, map, take, Option, IfSome, Result, Ok, Err, true, ⊤}
+use Rattle.std.specs.Prelude.{ℕ, ◌≡◌, ◌+◌, ◌<◌, List, [], ◌++◌, codes, length, map, take, Option, IfSome, Result, Ok, Err, true, ⊤}
+use Rattle.std.specs.Fmt.{decimal}
 use Rattle.std.specs.List.{All}
 use Rattle.std.specs.Io.KnownBytes.{Appends, Keeps}
 use Rattle.serde_json.specs.Data.{Data}
@@ -16,6 +17,13 @@ use Rattle.irp_fast_reader.specs.Fits.{EntryFits, EntryUnder, Fits, IsShort, Wor
 use Rattle.irp_fitting.specs.declared.unfit.{Unfit.Unfit, Unwritten.Unwritten}
 use Rattle.irp_fitting.specs.declared.unfit.Unfit.TheVariants as part
 use Rattle.irp_fitting.specs.declared.unfit.Unwritten.TheVariants as unwritten
+
+-- a part, as it stands in a message
+abbrev pub name_of : Unfit → List ℕ
+name_of part.TooMany = codes "more than 1000000 entries"
+name_of part.Header = codes "header"
+name_of (part.Entry place) = codes "entry " ++ decimal place
+name_of (part.Word place) = codes "word line " ++ decimal place
 
 -- what went out, where that is known
 abbrev pub Bytes : Type 0

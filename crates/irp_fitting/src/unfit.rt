@@ -17,6 +17,11 @@ pub enum Unfit {
 
 /// The part, as it stands in a message.
 impl fmt::Display for Unfit {
+    ghost use Rattle.std.specs.Prelude.{Some};
+    ghost use Rattle.irp_fitting.specs.Fitting.{name_of};
+
+    ghost output = { λ part. Some (name_of part) };
+
     fn fmt<W: fmt::Write>(&self, f: &mut fmt::Formatter<W>) -> fmt::Result {
         match self {
             Unfit::TooMany => f.write_str("more than 1000000 entries"),

@@ -3,6 +3,7 @@ use Rattle.std.specs.Prelude.{ℕ, List, ◌++◌, codes, Option, Some, None, Re
 use Rattle.std.specs.Fmt.{decimal}
 use Rattle.irp_judge.specs.declared.verdict.Verdict.{Verdict}
 use Rattle.irp_judge.specs.declared.verdict.Verdict.TheVariants as verdict
+use Rattle.irp_fitting.specs.Fitting.{name_of}
 use Rattle.irpx.specs.declared.ending.Ending.{Ending}
 use Rattle.irpx.specs.declared.ending.Ending.TheVariants.{Done, Illegal, Faulty}
 use Rattle.irpx.specs.declared.not_done.NotDone.{NotDone}
@@ -47,7 +48,7 @@ status_of Illegal = 2
 status_of (Faulty told) = fault_status told
 
 -- a fault's line for standard error, without its newline, where it is known: that of a refused script ends with the
--- refusal's text, and that of a transcript that doesn't fit with the part's
+-- refusal's text
 abbrev pub complaint_of : NotDone → Option (List ℕ)
 complaint_of (fault.RefusedScript refusal) = None
 complaint_of (fault.HandsBetween step) = None
@@ -55,7 +56,7 @@ complaint_of (fault.RefusedLine line) = Some (codes "irpx: transcript refused: l
 complaint_of fault.ReceiptsDiffer = Some (codes "irpx: receipts differ")
 complaint_of (fault.NoMemory phase) = Some (codes "irpx: out of memory")
 complaint_of (fault.Stopped stop) = Some (codes "irpx: out of memory")
-complaint_of (fault.Unfit unfit) = None
+complaint_of (fault.Unfit unfit) = Some (codes "irpx: can't be read again: " ++ name_of unfit)
 complaint_of fault.Usage = Some (codes "irpx: usage: irpx demo, run [--workers N] or check")
 complaint_of fault.Input = Some (codes "irpx: input or output failed")
 complaint_of fault.Output = Some (codes "irpx: input or output failed")
