@@ -1,9 +1,8 @@
 -- Lines that fit, which go out one after another, and where they stop.
-use Rattle.std.proofs.Common.{◌≡◌, ℕ, zero, suc, ◌+◌, ◌<◌, ◌≤◌, List, [], ◌∷◌, ◌++◌, map, length, take, get_or, Option, Some, None, Result, Ok, Err, refl, sym, subst, ap, ◌∙◌, arith, lit<}
+use Rattle.std.proofs.Common.{◌≡◌, ℕ, ◌+◌, ◌<◌, List, [], ◌∷◌, ◌++◌, map, length, take, get_or, Err, refl, subst, arith, lit<}
 use Rattle.std.proofs.lemmas.Grind.{common_steps}
-use Rattle.std.specs.Prelude.{OnOk}
 use Rattle.std.specs.List.{All}
-use Rattle.std.specs.Io.KnownBytes.{Appends, Keeps}
+use Rattle.std.specs.Io.KnownBytes.{Appends}
 use Rattle.serde_json.specs.Data.{Data}
 use Rattle.serde_json.specs.Written.{compact_text}
 use Rattle.irp_transcript_writer.specs.Json.{line_text}
@@ -15,10 +14,6 @@ use Rattle.irp_fitting.specs.declared.unfit.{Unfit.Unfit, Unwritten.Unwritten}
 use Rattle.irp_fitting.specs.declared.unfit.Unwritten.TheVariants as unwritten
 
 -- ---- what went out
-
-pub keeps_itself : (bytes : Bytes) → Keeps bytes bytes
-keeps_itself None = tt
-keeps_itself (Some bytes) = refl
 
 -- no line
 pub nothing : (old : Bytes) → Appends old old (text_of [])
@@ -32,15 +27,18 @@ line_is value bytes is = is
 pub sent : (text : List ℕ) (before : ℕ) (old new : Bytes) → Appends old new text → Sent text before old new (told (before + length text))
 sent text before old new gone = record { gone = gone; count = refl }
 
-pub stopped : (text : List ℕ) (before : ℕ) (old new : Bytes) (begins : Begins text old new) → Stopped text before old new (told (before + length begins.1.front))
+pub stopped : (text : List ℕ) (before : ℕ) (old new : Bytes) (begins : Begins text old new) → Stopped text before old new (told (before + length begins.front))
 stopped text before old new begins = record {
-  front = begins.1.front;
-  rest = begins.1.rest;
-  whole = begins.1.whole;
-  short = begins.1.short;
-  gone = begins.1.gone;
+  front = begins.front;
+  rest = begins.rest;
+  whole = begins.whole;
+  short = begins.short;
+  gone = begins.gone;
   count = refl;
 }
+
+pub begins : (text : List ℕ) (before : ℕ) (old new : Bytes) (written : ℕ) → Stopped text before old new written → Begins text old new
+begins text before old new written stops = record { front = stops.front; rest = stops.rest; whole = stops.whole; short = stops.short; gone = stops.gone }
 
 -- one more line
 pub gone_next : {T : Type 0} (form : T → Data) (items : List T) (index : ℕ) (item : T) (old mid new : Bytes) → index < length items → item ≡ get_or items index item
@@ -52,7 +50,7 @@ gone_next form items index item old mid new within is one two =
 begins_next : {T : Type 0} (form : T → Data) (items : List T) (index : ℕ) (item : T) (old mid new : Bytes) → index < length items → item ≡ get_or items index item
     → Appends old mid (text_of (map form (take index items))) → Begins (line_text (form item)) mid new → Begins (text_of (map form items)) old new
 begins_next form items index item old mid new within is one two =
-    (_, stopped_next form items index item 0 _ _ old mid new within is (sent _ 0 old mid one) (stopped _ _ mid new two))
+    begins _ 0 old new _ (stopped_next form items index item 0 _ _ old mid new within is (sent _ 0 old mid one) (stopped _ _ mid new two))
 
 -- ---- which fit
 

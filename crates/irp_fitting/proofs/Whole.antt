@@ -1,5 +1,5 @@
 -- A transcript's lines: the header's, the entries' and the word lines, of which all fit and go out, or the first ones.
-use Rattle.std.proofs.Common.{◌≡◌, ℕ, ◌+◌, ◌<◌, ◌≤◌, List, [], ◌∷◌, map, length, take, Option, Some, None, Result, Ok, Err, refl, sym, subst, ◌∙◌, arith}
+use Rattle.std.proofs.Common.{◌≡◌, ◌+◌, ◌≤◌, ◌<◌, ℕ, List, [], map, length, take, Some, Result, Ok, Err, refl, subst, arith}
 use Rattle.std.proofs.lemmas.Grind.{common_steps}
 use Rattle.std.proofs.lemmas.List.Elements.{All-weaker}
 use Rattle.std.specs.Prelude.{OnOk}
@@ -18,7 +18,7 @@ use Rattle.irp_fitting.specs.Fitting.{AnyHeader, Begins, Bytes, EntryTold, IsFir
 use Rattle.irp_fitting.specs.declared.unfit.Unwritten.{Unwritten}
 use Rattle.irp_fitting.specs.declared.unfit.Unfit.TheVariants.{Entry as EntryAt, Header as HeadLine, TooMany, Word as WordAt}
 use Rattle.irp_fitting.specs.declared.unfit.Unwritten.TheVariants as unwritten
-use Rattle.irp_fitting.proofs.Going.{nothing, sent, stopped}
+use Rattle.irp_fitting.proofs.Going.{begins, nothing, sent, stopped}
 
 abbrev whole : Header → List Entry → List WordLine → TranscriptValue
 whole header entries words = record { header = Some header; entries = entries; words = words }
@@ -62,22 +62,23 @@ all_gone header entries words old one two new head first second =
 
 head_begins : (header : Header) (entries : List Entry) (words : List WordLine) (old new : Bytes) → Begins (line_text (header_json header)) old new
     → Begins (text_of (lines (whole header entries words))) old new
-head_begins header entries words old new begins =
-    let head : Begins (text_of (header_lines (Some header))) old new = subst (λ text. Begins text old new) (text_one (header_json header)) begins in
-    (_, first_stopped (whole header entries words) (Some header) _ old new refl (stopped _ 0 old new head))
+head_begins header entries words old new stops =
+    let head : Begins (text_of (header_lines (Some header))) old new = subst (λ text. Begins text old new) (text_one (header_json header)) stops in
+    begins _ 0 old new _ (first_stopped (whole header entries words) (Some header) _ old new refl (stopped _ 0 old new head))
 
 entries_begin : (header : Header) (entries : List Entry) (words : List WordLine) (old one new : Bytes) → Appends old one (line_text (header_json header))
     → Begins (text_of (map entry_json entries)) one new → Begins (text_of (lines (whole header entries words))) old new
-entries_begin header entries words old one new head begins =
-    (_, second_stopped (whole header entries words) (Some header) entries _ _ old one new refl refl (sent _ 0 old one (head_gone header old one head)) (stopped _ _ one new begins))
+entries_begin header entries words old one new head stops =
+    begins _ 0 old new _
+    (second_stopped (whole header entries words) (Some header) entries _ _ old one new refl refl
+    (sent _ 0 old one (head_gone header old one head)) (stopped _ _ one new stops))
 
 words_begin : (header : Header) (entries : List Entry) (words : List WordLine) (old one two new : Bytes) → Appends old one (line_text (header_json header))
     → Appends one two (text_of (map entry_json entries)) → Begins (text_of (map word_json words)) two new → Begins (text_of (lines (whole header entries words))) old new
-words_begin header entries words old one two new head first begins = (
-  _,
-  third_stopped (whole header entries words) (Some header) entries words _ _ _ old one two new refl refl refl
-      (sent _ 0 old one (head_gone header old one head)) (sent _ _ one two first) (stopped _ _ two new begins),
-)
+words_begin header entries words old one two new head first stops =
+    begins _ 0 old new _
+    (third_stopped (whole header entries words) (Some header) entries words _ _ _ old one two new refl refl refl
+    (sent _ 0 old one (head_gone header old one head)) (sent _ _ one two first) (stopped _ _ two new stops))
 
 -- ---- what writing does
 

@@ -12,7 +12,6 @@ use Rattle.irp_transcript_reader.specs.Reading.{ReadsFrom, cut, hands_within, mo
 use Rattle.irp_transcript_writer.specs.Json.{line_text}
 use Rattle.irp_transcript_writer.specs.Lines.{header_json, lines, text_of}
 use Rattle.irp_transcript_writer.specs.Out.{risen}
-use Rattle.irp_transcript_writer.specs.Puts.{Stopped}
 use Rattle.irp_fast_reader.specs.Fits.{EntryFits, EntryUnder, Fits, IsShort, WordFits, WordUnder}
 use Rattle.irp_fitting.specs.declared.unfit.{Unfit.Unfit, Unwritten.Unwritten}
 use Rattle.irp_fitting.specs.declared.unfit.Unfit.TheVariants as part
@@ -54,9 +53,13 @@ LineFits Told json value = Told value × IsShort (json value)
 
 -- ---- what a call that writes did
 
--- a beginning of the text, not the whole, went out
-abbrev pub Begins : List ℕ → Bytes → Bytes → Type 0
-Begins text old new = (written : ℕ) × Stopped text 0 old new written
+-- a beginning of the text went out, which isn't the whole text
+pub record Begins (text : List ℕ) (old new : Bytes) : Type 0 where
+  pub front : List ℕ
+  pub rest : List ℕ
+  pub whole : text ≡ front ++ rest
+  pub short : 0 < length rest
+  pub gone : Appends old new front
 
 -- the count of failures rose exactly where the output failed
 abbrev pub Counts : {T : Type 0} → ℕ → ℕ → Result T Unwritten → Type 0
