@@ -4,8 +4,6 @@
 mod fits;
 mod fitting;
 mod forms;
-#[cfg(test)]
-mod tests;
 mod unfit;
 mod write;
 
