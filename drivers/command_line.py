@@ -17,7 +17,8 @@ are one driver. `run` links each driver by itself, so its globals don't meet tho
 A file with `main`, or with tests by WDM_TEST(NAME), is the test (include/wdm_test.h has what it calls). Where there is
 none, the host's own test runs: it starts the stack over bottom devices, sends and cancels requests, and removes it.
 
-What is built goes below drivers/out, or the folder that WDM_OUT names. A run of the same name waits for another one there."""
+What is built goes below drivers/out, or the folder that WDM_OUT names, in a folder that has the name of the first FILE and
+of its folder. A run of the same name waits for another one there."""
 
 EPILOG = """examples:
   run mydriver.c                         one driver, tested by the host
