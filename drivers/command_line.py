@@ -70,7 +70,7 @@ def add_test(parser):
     group.add_argument("--threads", type=int, metavar="N", help="threads that the host's test sends from (1 to 16)")
     group.add_argument("--controls", metavar="CODE,..", help="control codes that the host's test sends")
     group.add_argument("--scenario", choices=orders.SCENARIOS,
-                       help="one piece of the host's test, for --every-order")
+                       help="one scenario of the host's test, for --every-order")
     group.add_argument("--patience", type=int, metavar="S", help="a wait hangs after S quiet seconds (3)")
     group.add_argument("--timeout", type=int, default=120, metavar="S", help="end a run after so many seconds (120)")
 
@@ -156,7 +156,10 @@ def parser_of():
 
 def read_arguments():
     """Returns what `run` was asked."""
-    options = parser_of().parse_args()
+    parser = parser_of()
+    options = parser.parse_intermixed_args()
+    if options.scenario and not (options.every_order or options.schedule):
+        parser.error("--scenario goes with --every-order or --schedule")
     options.source += [file for _, file in options.on]
     if options.on:
         options.settings["WDM_ON"] = ";".join(f"{stem(file)}={child}" for child, file in options.on)

@@ -63,6 +63,8 @@ const char *held_tags(int device)
                               h->in_dispatch ? " (dispatch for " : "", h->in_dispatch ? major_name(h->major) : "",
                               h->in_dispatch ? ")" : "");
     }
+    if (k->n > 4 && n < sizeof text)
+        snprintf(text + n, sizeof text - n, "; and %d more", k->n - 4);
     return text;
 }
 
