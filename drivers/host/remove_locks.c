@@ -31,7 +31,7 @@ static void write_word(const char *act, int lock, PVOID tag, const char *reply, 
 
 bool lock_knows_drained(int device) { return locks[device].knows >> self.seat & 1; }
 
-/* The packet whose pointer is the tag, where its dispatch acquired the lock, and what became of it. */
+/* The packet whose pointer the tag is, and what became of it; empty where there is none. */
 static const char *tagged(const Held *h)
 {
     static _Thread_local char text[80];
@@ -155,6 +155,15 @@ NTSTATUS WdmIoAcquireRemoveLock(PIO_REMOVE_LOCK RemoveLock, PVOID Tag, WDM_SITE 
     return removed ? STATUS_DELETE_PENDING : STATUS_SUCCESS;
 }
 
+/* The live packet whose pointer the tag is, or NULL. */
+static const Packet *packet_of_tag(PVOID tag)
+{
+    for (int i = n_packets - 1; i >= 0; i--)
+        if (packets[i]->live && packets[i]->irp == tag && !packets[i]->rides)
+            return packets[i];
+    return NULL;
+}
+
 /* Gives one reference back: this seat's under the tag, else another seat's, which is handed over first. */
 static bool give_back(int d, PVOID tag, const char *act)
 {
@@ -165,8 +174,10 @@ static bool give_back(int d, PVOID tag, const char *act)
             found = i;
     if (found < 0) {
         write_word(act, d, tag, "\"not_held\"", self.seat, -1);
-        fault("NotHeld", NULL, "%s is released under a tag that isn't held (tag %lu)%s%s", lock_name(d),
-              (unsigned long)number_of(tag), k->n ? "; held" : "", k->n ? held_tags(d) : "");
+        const Packet *p = packet_of_tag(tag);
+        const Held none = { .p = p, .use = p ? p->use : 0 };
+        fault("NotHeld", NULL, "%s is released under tag %lu%s, which isn't held%s%s", lock_name(d),
+              (unsigned long)number_of(tag), tagged(&none), k->n ? "; held" : "", k->n ? held_tags(d) : "");
         return false;
     }
     if (k->held[found].seat != self.seat)

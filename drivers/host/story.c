@@ -7,13 +7,16 @@ typedef struct {
     Place at, next;
 } Switch;
 static Switch switches[MAX_SWITCHES];
-static int n_switches, first_chosen = -1;
+static int n_switches, first_chosen = -1, at_fault; /* at_fault: how many came before the first fault */
+enum { MOST_SHOWN = 40 };
 extern char __executable_start;
 
 void remember_switch(const Choices *c, int to, const Place *next)
 {
     if (n_switches == MAX_SWITCHES)
         return;
+    if (n_faults && !at_fault)
+        at_fault = n_switches;
     const bool chosen = to != c->usual;
     if (chosen && first_chosen < 0)
         first_chosen = n_switches;
@@ -39,12 +42,12 @@ static void put_switch(FILE *out, const Switch *s)
     fprintf(out, "%s\n", s->early ? "; time passes early" : "");
 }
 
-/* From the first switch that isn't usual to the last that isn't, and who goes on then. */
+/* From the first switch that isn't usual to the last that isn't, or to the first fault, and who goes on then. */
 void tell_story(FILE *out)
 {
-    int last = 0, early = 0;
+    int last = at_fault ? at_fault - 1 : n_switches - 1, early = 0;
     for (int i = 0; i < n_switches; i++) {
-        last = switches[i].is_decision ? i : last;
+        last = switches[i].is_decision && i > last ? i : last;
         early += switches[i].preempts || switches[i].early;
     }
     fprintf(out, "schedule: %d switches, %d of them preemptions or early timers\n", n_switches, early);
@@ -52,8 +55,14 @@ void tell_story(FILE *out)
         return;
     if (first_chosen)
         fprintf(out, "schedule: .. %d switches as usual\n", first_chosen);
-    for (int i = first_chosen; i <= last && i < first_chosen + 40; i++)
+    const int skipped = last + 1 - first_chosen - MOST_SHOWN;
+    for (int i = first_chosen; i <= last; i++) {
+        if (skipped > 0 && i == first_chosen + MOST_SHOWN / 2) {
+            fprintf(out, "schedule: .. %d switches left out\n", skipped);
+            i += skipped;
+        }
         put_switch(out, &switches[i]);
+    }
     fprintf(out, "schedule: %-30s goes on from ", thread_name(switches[last].to));
     put_place(out, &switches[last].next);
     fputs("\n", out);

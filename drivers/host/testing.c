@@ -241,7 +241,7 @@ static size_t write_out(void)
     write_summary(n);
     say("%zu entries, %d faults, %d notes", n, n_faults, n_notes);
     if (n_early)
-        say("%d recorded while their dispatch still ran, since another thread had the packet", n_early);
+        say("recorded before the dispatch returned, since another thread had the packet: %d", n_early);
     return n;
 }
 
