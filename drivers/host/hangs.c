@@ -131,8 +131,8 @@ void hang(Woken why, unsigned long began, WDM_SITE at)
             if (is_cancelled_and_held(packets[i]))
                 tell_cancelled_and_held(packets[i]);
         tell_in_flight(text, sizeof text);
-        fault("Hang", NULL, why == OVERDUE ? "waits for what nobody does, while other threads go on; %s" :
-              "waits for what nobody does; %s", text);
+        fault("Hang", NULL, why == OVERDUE ? "waits for what no thread does, while others go on; %s" :
+              "waits for what no thread does; %s", text);
     }
     const bool goes_on = complete_lost();
     if (!goes_on)
