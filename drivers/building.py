@@ -113,11 +113,13 @@ def shared_names(units, others, libraries):
 
 
 def localize(made, name, keep):
-    """Makes the driver's globals its own, but for those that are kept; DriverEntry gets the driver's name."""
+    """Makes the driver's globals its own, but for those that are kept; DriverEntry gets the driver's name. Its code gets a
+    section of its own, so that the host knows whose an instruction is."""
     listed = made + ".kept"
     with open(listed, "w", encoding="utf-8") as it:
         it.writelines(f"{symbol}\n" for symbol in sorted(keep | {f"{name}_DriverEntry", "main"}))
-    call(["objcopy", f"--redefine-sym=DriverEntry={name}_DriverEntry", f"--keep-global-symbols={listed}", made],
+    call(["objcopy", f"--redefine-sym=DriverEntry={name}_DriverEntry", f"--keep-global-symbols={listed}",
+          f"--rename-section=.text=code_of_{name}", made],
          f"the names of {name} can't be made its own")
     os.remove(listed)
 

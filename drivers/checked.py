@@ -9,6 +9,7 @@ import sys
 from xml.etree import ElementTree
 
 import mistakes
+import planted
 
 HERE = os.path.dirname(os.path.abspath(__file__))
 # What the run of a case needs, by the end of its name.
@@ -62,13 +63,18 @@ def tests(bench, names_of, complaint):
     yield "each rule of the host has a case, and a row of VERIFIER.md", missing_rules(names)
 
 
-def right_verified(bench, wish):
+def whole_plans(stacks):
+    """Returns what whole plans are made over where `verified` is chosen."""
+    return ["samples", PORTS, *(f"stacks/{it}.c" for it in stacks), *(f"--args {it}=all shapes" for it in planted.RIGHT_SHAPES)]
+
+
+def right_verified(bench, wish, minutes=0.4):
     """Gives a complaint where a right driver isn't silent in a run. The name says how many runs of the plan were made
-    within the time: all cheap ones, and as many of the others as the machine allowed."""
+    within the time: all cheap ones, and as many of the others as the machine allowed. In an hour it has to be all."""
     words = [f"{HERE}/{it}" if os.path.exists(f"{HERE}/{it}") else it.replace("=", " ") for it in wish.split()]
-    said, status = ran(bench, "--verify", "--minutes", "0.4", "--processes", "1", *words)
+    said, status = ran(bench, "--verify", "--minutes", str(minutes), "--processes", "1", *words)
     planned, made = (re.search(rf"^verify: (\d+) runs{end}", said, re.M) for end in ("$", ","))
-    well = planned and made and status == (0 if planned[1] == made[1] else 3)
+    well = planned and made and status == (0 if planned[1] == made[1] or minutes == 60 else 3)
     covered = f"{made[1]} of {planned[1]} runs" if planned and made else "no run"
     yield f"verify: {wish}, {covered}", None if well else f"status {status}: {said[-600:]}"
 

@@ -17,10 +17,11 @@ RACES = sorted(it[:-2] for it in os.listdir(HERE + "/races") if it.endswith(".c"
 # Stacks at one round a loop: how many preemptions are exhausted, and up to how many the reduction is compared with none.
 STACKS = {"children": (2, 2), "keyboard": (2, 1), "late": (2, 2), "policy": (2, 2), "power": (1, 1), "removal": (2, 1),
           "retry": (2, 2), "serial": (2, 2), "split": (1, 1), "watchdog": (2, 2), "handover": (2, 1), "port": (2, 2),
-          "direct": (2, 2), "shared": (1, 1), "settings": (2, 2)}
-# Compared with two preemptions where `compared` is chosen. Without the reduction there are at most, reckoned from the first
-# run, so many thousand: 3, 9, 17.
-LONGER = ["keyboard", "handover", "removal"]
+          "direct": (2, 2), "shared": (1, 1), "settings": (2, 2), "enumerate": (2, 2), "ports": (2, 2)}
+# Compared with two preemptions where `compared` is chosen, and these races too, as they stand: without the reduction each
+# is some thousand runs.
+LONGER = ["keyboard", "handover", "shared", "power", "split", "removal"]
+LONGER_RACES = ["buffer_taken", "interface_seen", "mdl_seen", "property_seen", "resource_tried"]
 
 # An explorer with one thing wrong: a name, a file of the host, what is replaced by what, and where it shows: in a race that
 # it doesn't find with as few preemptions, in a right driver that isn't clean, or in a stack's number of classes.
@@ -84,6 +85,16 @@ class Options:
             self.one_processor = ". On one processor:" in it.readline()
 
 
+def stack_options(cc, name, preemptions):
+    """The options for a stack: a file, or a class driver with its minidriver."""
+    if name != "ports":
+        return Options(cc, f"{HERE}/stacks/{name}.c", preemptions)
+    portclass, *sources = (f"{HERE}/stacks/ports/{it}.c" for it in ("portclass", "portmini", "test"))
+    options = Options(cc, sources[-1], preemptions)
+    options.source, options.library = sources, [portclass]
+    return options
+
+
 class Explored:
     """A program, built for schedules."""
 
@@ -96,10 +107,11 @@ class Explored:
         self.options.settings = settings
         return orders.explore(self.options, self.program, self.folder, self.run.settings_of(self.options))
 
-    def classes(self, reduces):
-        """Returns the report, and the hashes of the classes of orders, or None where not all were made."""
+    def classes(self, reduces, goes_on=False):
+        """Returns the report, and the hashes of the classes of orders, or None where not all were made. Where it goes on,
+        failures don't end it: a failure is a class too."""
         path = f"{self.folder}/classes{reduces}"
-        report = self.report(WDM_REDUCE=str(reduces), WDM_CLASSES=path)
+        report = self.report(WDM_REDUCE=str(reduces), WDM_CLASSES=path, WDM_GO_ON=str(int(goes_on)))
         with open(path, encoding="ascii") as it:
             return report, set(it.read().split()) if report.facts["ended"] == "done" else None
 
@@ -139,9 +151,9 @@ def wrong_right(report):
     return None if report.facts["ended"] == "done" else f"{report.facts['ended']}: {report.facts.get('why', '')}"
 
 
-def wrong_classes(made):
+def wrong_classes(made, goes_on=False):
     """Returns how the classes with the reduction differ from those without, or None."""
-    (one, none), (two, states) = made.classes(0), made.classes(1)
+    (one, none), (two, states) = made.classes(0, goes_on), made.classes(1, goes_on)
     if none is None or states is None:
         return f"not all orders were made: {one.facts['ended']}, {two.facts['ended']}; {two.facts.get('why', '')}"
     return None if none == states else f"{len(none)} classes, with the reduction {len(states)} ({len(none & states)} in both)"
@@ -165,6 +177,13 @@ def test_race(run, bench, name):
     yield f"race {name}, again by its schedule, the same bytes", None if same and fault else one.said
     yield f"race {name}, a schedule that doesn't fit", None if "doesn't fit" in made.followed("1=1,9999=1", "none").said \
         else "it isn't told"
+    if name not in LONGER_RACES:
+        yield compared_race(made, name)
+
+
+def compared_race(made, name):
+    """The reduction against none, past all failures."""
+    return f"race {name}, the same classes without the reduction", wrong_classes(made, goes_on=True)
 
 
 def test_right(run, bench, name):
@@ -175,7 +194,7 @@ def test_right(run, bench, name):
 
 def test_stack(run, bench, name):
     most, compared = STACKS[name]
-    made = Explored(run, bench, f"orders {name}", Options(bench.cc, f"{HERE}/stacks/{name}.c", most))
+    made = Explored(run, bench, f"orders {name}", stack_options(bench.cc, name, most))
     report = made.report()
     yield f"stack {name}, every order with {orders.plural(most, 'preemption')}", wrong_right(report) or not_legal(made)
     made.options.preemptions = compared
@@ -184,9 +203,14 @@ def test_stack(run, bench, name):
 
 def compared(run, bench, name):
     """The reduction against none with two preemptions, which takes minutes."""
-    made = Explored(run, bench, f"compared {name}", Options(bench.cc, f"{HERE}/stacks/{name}.c", 2))
+    is_race = name in LONGER_RACES
+    options = Options(bench.cc, f"{HERE}/races/{name}.c", 2) if is_race else stack_options(bench.cc, name, 2)
+    made = Explored(run, bench, f"compared {name}", options)
     made.options.minutes = 60
-    yield f"stack {name}, the same classes with 2 preemptions without the reduction", wrong_classes(made)
+    if is_race:
+        yield compared_race(made, name)
+    else:
+        yield f"stack {name}, the same classes with 2 preemptions without the reduction", wrong_classes(made)
 
 
 def test_shapes(run, bench):

@@ -124,22 +124,28 @@ meets 'the shown steps are told as the table tells them' \
 run --ends --never 'status(a) == 0xC0000120' "$examples"/a_cancel_against_a_completion.script
 meets 'by ends too' [ "$(grep -c '^    step .* -> ' "$room/output")" -eq 3 ]
 
-# Whether every order is right: the first line, and what is wrong with the order that is shown.
-while IFS='|' read -r name status line wrongs; do
+# Whether every order is right: the first line, what is wrong with the order that is shown, and in the last line a condition
+# that it meets, and no right order: the first step that was refused, else the first label whose packet a device has, else
+# the first remove lock that is held. `--never` shows an order that meets it.
+while IFS='|' read -r name status line wrongs such; do
     [ -n "$name" ] || continue
     run --right "$examples/$name.script"
     ended "$name, right" "$status" '' "$line"
     told=$(sed -n 's/^wrong: //p' "$room/output" | paste -sd';')
     meets "$name, right: wrong: $told" [ "$told" = "$wrongs" ]
+    [ -n "$such" ] || continue
+    meets "$name, right: such orders" [ "$(tail -n 1 "$room/output")" = "such orders: --never '$such'" ]
+    run --never "$such" "$examples/$name.script"
+    meets "$name, never $such: status $status" [ "$status" -eq 2 ]
 done <<'END'
-two_preparations_of_one_packet|0|right: 2 orders, 2 outcomes|
-a_lost_pending_mark|2|not right in 3 of 3 orders, 3 of 3 outcomes; one of them:|step 1 was refused: NotOwner;D1 has a
-a_cancel_against_a_completion|2|not right in 2 of 3 orders, 2 of 3 outcomes; one of them:|step 2 was refused: Ended
-a_removal_against_a_send|2|not right in 55 of 71 orders, 4 of 5 outcomes; one of them:|step 3 was refused: NotDrained
-a_hand_over_against_a_drain|2|not right in 118 of 143 orders, 3 of 5 outcomes; one of them:|step 5 was refused: not_held;remove lock 0 is held, by seat 2 as tag 1
-a_cancel_against_a_completion_by_a_slot|2|not right in 46 of 46 orders, 4 of 4 outcomes; one of them:|step 4 was refused: no_token
-../right/a_cancel_by_a_slot_that_nobody_finishes|2|not right in 3 of 20 orders, 1 of 4 outcomes; one of them:|D0 has a
-../right/a_removal_that_keeps_its_reference|2|not right in 25 of 50 orders, 1 of 3 outcomes; one of them:|remove lock 0 is held, by seat 0 as tag 1
+two_preparations_of_one_packet|0|right: 2 orders, 2 outcomes||
+a_lost_pending_mark|2|not right in 3 of 3 orders, 3 of 3 outcomes; one of them:|step 1 was refused: NotOwner;D1 has a|reply(1) == NotOwner
+a_cancel_against_a_completion|2|not right in 2 of 3 orders, 2 of 3 outcomes; one of them:|step 2 was refused: Ended|reply(2) == Ended
+a_removal_against_a_send|2|not right in 55 of 71 orders, 4 of 5 outcomes; one of them:|step 3 was refused: NotDrained|reply(3) == NotDrained
+a_hand_over_against_a_drain|2|not right in 118 of 143 orders, 3 of 5 outcomes; one of them:|step 5 was refused: not_held;remove lock 0 is held, by seat 2 as tag 1|reply(5) == not_held
+a_cancel_against_a_completion_by_a_slot|2|not right in 46 of 46 orders, 4 of 4 outcomes; one of them:|step 4 was refused: no_token|reply(4) == no_token
+../right/a_cancel_by_a_slot_that_nobody_finishes|2|not right in 3 of 20 orders, 1 of 4 outcomes; one of them:|D0 has a|owner(a) == D0
+../right/a_removal_that_keeps_its_reference|2|not right in 25 of 50 orders, 1 of 3 outcomes; one of them:|remove lock 0 is held, by seat 0 as tag 1|held(0) == 1
 END
 # What a single order may leave: a packet at its device, a full slot, a cancel routine; and a setup that was refused.
 left() {
@@ -149,17 +155,21 @@ left() {
         '{"seat":0,"do":"call_driver","by":"o","irp":"a","target":0}' "$2" "$3" >"$room/left.script"
     run --right "$room/left.script"
     told=$(sed -n 's/^wrong: //p' "$room/output" | paste -sd';')
+    such=$(sed -n 's/^such orders: //p' "$room/output")
 }
 look='{"seat":0,"do":"look","irp":"a"}'
 left '"hold_slot"' '' '{"seat":0,"do":"publish","slot":0,"irp":"a"}'
 ended 'a full slot' 2 '' 'not right in 1 of 1 orders, 1 of 1 outcomes; one of them:'
 meets "a full slot: $told" [ "$told" = 'D0 has a;cancel slot 0 is full: use 1 stands in it' ]
+meets "a full slot: such orders: $such" [ "$such" = "--never 'owner(a) == D0'" ]
 left '"hold_slot"' '' '{"seat":0,"do":"publish","slot":0,"irp":"a"},{"seat":0,"do":"allocate","size":1,"as":"a"}'
 meets "a packet without a label: $told" [ "$told" = 'D0 has IRP 0.1;cancel slot 0 is full: use 1 stands in it' ]
+meets "a packet without a label: no such orders: $such" [ -z "$such" ]
 left '"hold",0' '' "$look"
 meets "a cancel routine: $told" [ "$told" = 'D0 has a;a still has a cancel routine' ]
 left '"finish",0,4' ',{"seat":0,"do":"mark_pending","by":0,"irp":"a"}' "$look"
 meets "a setup: $told" [ "$told" = 'step 4 of setup was refused: Ended' ]
+meets "a setup: no such orders: $such" [ -z "$such" ]
 left '"finish",0,4' '' "$look"
 ended 'a look at what was completed' 0 '' 'right: 1 orders, 1 outcomes'
 

@@ -5,7 +5,7 @@ Usage: orders.py IRP_ORDERS IRPX COUNT RUNS SEED. Of the small scripts of the ex
 the two have to tell as many orders for the same outcomes: the same replies, and the same packets and devices at the end;
 each transcript that is shown has to be legal by the model, and its calls to change their seat as often as in the order of
 this outcome that does so least often, or less often where the script has steps that aren't calls; `--right` has to tell how
-many orders don't end right; and `--never`, in how many a step is made. Of COUNT further scripts
+many orders don't end right, and a condition that no others meet; and `--never`, in how many a step is made. Of COUNT further scripts
 that free and allocate packets the same is compared, and, where one seat makes all their steps, the transcript that is
 shown with the one that irpx writes. Of each race, RUNS runs on as many workers as it has seats have to print one of the
 outcomes; so does each of RUNS / 4 runs of a third as many scripts of either kind. As many runs as there are processors go on at
@@ -137,7 +137,19 @@ def judged(text, wanted):
     else:
         is_so = it.returncode == 2 and line.startswith(f"not right in {orders - right} of {orders} orders, ")
         is_so = is_so and "\nwrong: " in told
+    if is_so and (such := re.search(r"\nsuch orders: --never '(.*)'\n$", told)):
+        return such_orders(text, such[1], orders - right)
     return None if is_so else f"expected {right} of {orders} orders right, got status {it.returncode}, {line}"
+
+
+def such_orders(text, condition, wrong):
+    """Returns what is wrong with a condition that `--right` tells of so many wrong orders, or None: some of them meet it, and no
+    further order."""
+    it = subprocess.run([IRP_ORDERS, "--never", condition], input=text, capture_output=True, timeout=300)
+    line = it.stdout.decode().split("\n")[0]
+    count = re.match(r"it holds in (\d+) of ", line)
+    is_so = it.returncode == 2 and count is not None and int(count[1]) <= wrong
+    return None if is_so else f"such orders, {condition}: {wrong} orders are wrong, got status {it.returncode}, {line}"
 
 
 def made(text, script, wanted):

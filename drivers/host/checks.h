@@ -84,8 +84,10 @@ PKDPC take_dpc_in(const void *from, size_t size);
 
 /* watching.c, completions.c */
 void watch_sent(Packet *p, int by, uint64_t use);
+void watch_again(void);
 bool unwatch(Packet *p);
 bool is_watcher(const Packet *p);
+bool is_code_of_holder(const Packet *p, const void *at);
 void check_completion(const Packet *p, int by, ULONG status, uint64_t information);
 void check_sending(const Packet *p, int by);
 

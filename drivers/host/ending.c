@@ -12,16 +12,18 @@ void note_fault(const char *text)
         snprintf(first_fault, sizeof first_fault, "%s", text);
 }
 
-/* The first failure is kept, and ends the exploration. */
+/* The first failure is kept, and ends the exploration, unless all of them are wanted. */
 void note_failure(const Schedule *s, int cost, const char *why)
 {
     int none = 0;
+    shared->n_failed++;
     if (!atomic_compare_exchange_strong(&shared->has_failed, &none, 1))
         return;
     shared->failed = *s;
     shared->cost = cost;
     snprintf(shared->why, sizeof shared->why, "%s", why);
-    shared->order = TO_STOP;
+    if (!shared->goes_on)
+        shared->order = TO_STOP;
 }
 
 static uint64_t hash_of(const char *text, size_t length)
@@ -157,6 +159,8 @@ void end_run(int status)
         raise_to(&shared->most_points, (unsigned long)points_of_run());
         if (why)
             note_failure(&followed, cost_of_run(), why);
+        if (why && shared->goes_on) /* as another class than where nothing fails */
+            put_in(shared->classes, state_of_run() ^ hash_of(why, strcspn(why, ":")));
         wait_for_processes();
     } else {
         if (schedule_misfits())

@@ -97,7 +97,7 @@ static void begin_round(int bound)
     shared->bound = bound;
     shared->order = GOES_ON;
     shared->busy = 1;
-    shared->runs = shared->cut = shared->beyond = shared->begun = shared->n_classes = 0;
+    shared->runs = shared->cut = shared->beyond = shared->begun = shared->n_classes = shared->n_failed = 0;
     shared->n_active = shared->n_racy < MAX_RACY ? shared->n_racy : MAX_RACY;
     memcpy(shared->is_point, shared->is_racy, sizeof shared->is_point);
 }
@@ -172,7 +172,7 @@ static Ended run_round(int bound)
         return ALL_MADE;
     }
     watch(child);
-    return shared->has_failed ? FAILED : shared->n_states > shared->n_slots / 2 ? FULL :
+    return shared->has_failed && !shared->goes_on ? FAILED : shared->n_states > shared->n_slots / 2 ? FULL :
         shared->order == TO_STOP ? STOPPED : ALL_MADE;
 }
 
@@ -228,8 +228,8 @@ static void end_exploration(Ended ended)
     tell_outcomes();
     tell_places();
     write_classes(getenv("WDM_CLASSES"));
-    fprintf(report, "restarts %d\nmost_decisions %lu\nmost_points %lu\n", n_restarts, shared->most_decisions,
-            shared->most_points);
+    fprintf(report, "restarts %d\nmost_decisions %lu\nmost_points %lu\nfailed_runs %lu\n", n_restarts,
+            shared->most_decisions, shared->most_points, shared->n_failed);
     if (ended == FAILED)
         fprintf(report, "cost %d\nschedule %s\nwhy %s\n", shared->cost, schedule_text(&shared->failed), shared->why);
     fprintf(report, "ended %s\n", words[ended]);
@@ -287,6 +287,7 @@ static void set_up(void)
     shared->outcomes = share(MAX_OUTCOMES * sizeof *shared->outcomes);
     shared->processes = (int)number("WDM_PROCESSES", sysconf(_SC_NPROCESSORS_ONLN));
     shared->reduces = number("WDM_REDUCE", 1) && hooks_present;
+    shared->goes_on = number("WDM_GO_ON", 0);
     shared->part = (int)number("WDM_PART", 0);
     shared->parts = (int)number("WDM_PARTS", 0);
     most_seconds = (double)number("WDM_SECONDS", 0);

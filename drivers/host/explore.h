@@ -31,6 +31,7 @@ typedef struct {
     /* set by the explorer before a round */
     int bound, processes, part, parts; /* parts 0: all */
     bool reduces, only_first;  /* only_first: the run by the usual order, whose other choices are counted */
+    bool goes_on;              /* past a failure: all classes are wanted, those that fail with them */
     size_t n_slots;            /* of `states`: a power of two */
     _Atomic uint64_t *states;  /* of each a hash, and in its lowest byte one more than the cost that was left */
     /* by all */
@@ -46,6 +47,7 @@ typedef struct {
     Site sites[MAX_SITES];
     _Atomic uint64_t *classes, *transcripts; /* sets of MAX_SET hashes */
     Outcome *outcomes;         /* MAX_OUTCOMES of them */
+    _Atomic unsigned long n_failed; /* runs that fail */
     /* the first failure */
     _Atomic int has_failed;
     Schedule failed;

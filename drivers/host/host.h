@@ -184,8 +184,9 @@ struct Packet {
     bool watched; /* watching.c: its page is closed, until somebody touches it */
     uint64_t watcher; /* the number of the frame */
     const struct Call *watcher_calls;
+    int sent_by;
     const void *touched_at;
-    int toucher;
+    int toucher, toucher_calls; /* the device that ran; the driver whose function it had called, or NOBODY */
     struct { WDM_SITE allocated, sent, completed, freed, cancel; } sites;
     Callers completers;
     uint64_t name; /* by the thread that allocated it, and how many that had allocated before */
@@ -232,6 +233,7 @@ typedef struct {
     Frame *frames;
     Call *calls;
     Packet *touched;
+    Packet *opened; /* watching.c: a function of the driver that has it touched it */
     struct _KTHREAD *thread;
     PFILE_OBJECT file; /* whose packets it builds (WdmUseFile), or NULL */
     int regions;       /* critical ones that it is in */
@@ -278,6 +280,7 @@ size_t expected_entries(void);
 void tell_expected(FILE *out);
 const char *function_name(const void *address);
 bool is_in_program(const void *address);
+bool is_code_of_one(const void *a, const void *b);
 unsigned long place_in_program(const void *address);
 const char *major_name(int major);
 
@@ -312,6 +315,7 @@ void learn_file(const char *file, int driver);
 void learn_test(const char *file);
 bool has_test(const char *file);
 int calling_driver(void);
+int running_driver(void);
 void set_event(PKEVENT event);
 void hands_over(void);
 void hands_over_now(void);

@@ -8,8 +8,9 @@
 #include <unistd.h>
 
 static const Elf64_Sym *symbols;
-static size_t n_symbols;
-static const char *strings;
+static const Elf64_Shdr *sections;
+static size_t n_symbols, n_sections;
+static const char *strings, *section_names;
 static uintptr_t base;
 
 static int take_base(struct dl_phdr_info *info, size_t size, void *context)
@@ -30,8 +31,10 @@ static void read_symbols(void)
     if (all == MAP_FAILED || memcmp(all, ELFMAG, SELFMAG) || all[EI_CLASS] != ELFCLASS64)
         return;
     const Elf64_Ehdr *head = (const void *)all;
-    const Elf64_Shdr *sections = (const void *)(all + head->e_shoff);
-    for (int i = 0; i < head->e_shnum; i++)
+    sections = (const void *)(all + head->e_shoff);
+    n_sections = head->e_shnum;
+    section_names = all + sections[head->e_shstrndx].sh_offset;
+    for (size_t i = 0; i < n_sections; i++)
         if (sections[i].sh_type == SHT_SYMTAB) {
             symbols = (const void *)(all + sections[i].sh_offset);
             n_symbols = sections[i].sh_size / sizeof *symbols;
@@ -60,6 +63,24 @@ unsigned long place_in_program(const void *address)
 {
     function_name(address);
     return (unsigned long)((uintptr_t)address - base);
+}
+
+/* The section that is the code of one driver, as building.py names it, or NULL where the address is in none. */
+static const Elf64_Shdr *driver_code(const void *address)
+{
+    const uintptr_t at = place_in_program(address);
+    for (size_t i = 0; i < n_sections; i++)
+        if (at >= sections[i].sh_addr && at < sections[i].sh_addr + sections[i].sh_size &&
+            !strncmp(section_names + sections[i].sh_name, "code_of_", 8))
+            return &sections[i];
+    return NULL;
+}
+
+/* Whether both addresses are code of one driver, which was linked alone. */
+bool is_code_of_one(const void *a, const void *b)
+{
+    const Elf64_Shdr *code = driver_code(a);
+    return code && code == driver_code(b);
 }
 
 const char *major_name(int major)

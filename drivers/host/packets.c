@@ -41,17 +41,18 @@ static int party_of(const Packet *p, bool needs_location)
     if (on_top(p))
         return self.frames->device;
     const int holder = p->asking ? p->asking->device : p->owner == ENDED ? p->last : p->owner;
-    const int caller = calling_driver();
-    if (caller == NOBODY || driver_of(holder) == caller)
+    const int caller = calling_driver(), lender = running_driver();
+    if (caller == NOBODY || driver_of(holder) == caller || (holder >= 0 && driver_of(holder) == lender))
         return holder;
-    const bool its_own = p->allocator == caller || (p->allocator == NOBODY && may_be_the_test());
+    const bool its_own = p->allocator == NOBODY ? may_be_the_test() : p->allocator == caller || p->allocator == lender;
     if (holder == ORIGINATOR && its_own && !needs_location)
         return holder;
     return calling_device(caller);
 }
 
 /* In whose name this thread's call on the packet is: that of the routine of this packet that runs; else of whoever is
-   asked about it or has it, where the calling code may be theirs; else of the caller's own device. */
+   asked about it or has it, where the calling code may be theirs, or a function of another driver that they called; else
+   of the caller's own device. */
 int party(const Packet *p) { return party_of(p, false); }
 
 /* The same of a call that needs a location of one's own: an originator has none, so a driver calls for its device. */

@@ -127,10 +127,13 @@ static bool is_idle(const void *unused)
     return plug_and_play_is_idle();
 }
 
+/* However long it takes: what follows counts on it. */
 VOID WdmSettlePlugAndPlay(VOID)
 {
     Call c;
-    enter_host(&c, "WdmSettlePlugAndPlay", (WDM_SITE){ 0 });
-    wait_for_host(is_idle, NULL);
+    const Wait w = { .ready = is_idle, .on = &host_settled, .patience = IDLES, .what = "WdmSettlePlugAndPlay" };
+    enter_host(&c, w.what, (WDM_SITE){ 0 });
+    wait_for(&w);
+    touch(&n_orders, SYNCS);
     leave_host();
 }

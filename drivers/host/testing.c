@@ -45,6 +45,7 @@ static NTSTATUS load(const char *Name, PDRIVER_INITIALIZE Entry, PDRIVER_OBJECT 
         give_up("more than 64 drivers");
     extension->DriverObject = d;
     d->DriverExtension = extension;
+    d->DriverInit = Entry;
     d->HostName = Name;
     d->HostNumber = n_drivers;
     drivers[n_drivers++] = d;

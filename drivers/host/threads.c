@@ -89,6 +89,8 @@ void enter_quietly(Call *c, const char *name, WDM_SITE at)
         self.frames->last_call = name;
     }
     tell_block_touches();
+    if (self.opened)
+        watch_again();
     check_call(c);
 }
 
@@ -202,8 +204,12 @@ int driver_of_file(const char *file)
 int calling_driver(void)
 {
     const int by_file = driver_of_file(self.calls ? self.calls->at.file : NULL);
-    if (by_file != NOBODY)
-        return by_file;
+    return by_file != NOBODY ? by_file : running_driver();
+}
+
+/* The same without the file: it differs where a driver calls a function that another one exports. */
+int running_driver(void)
+{
     const Frame *f = self.frames;
     if (f && f->device >= 0)
         return devices[f->device].raw->DriverObject->HostNumber;

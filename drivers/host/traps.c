@@ -17,6 +17,17 @@ static const void *toucher_of(const void *context)
     return is_in_program(at) || !where_is(true, &above, 1) ? at : above;
 }
 
+/* The driver whose function touches, where the routine that runs is another driver's; or NOBODY. */
+static int called_driver(const void *at)
+{
+    if (!self.frames || is_code_of_one(at, self.frames->fn))
+        return NOBODY;
+    for (int i = 0; i < n_drivers; i++)
+        if (is_code_of_one(at, (const void *)drivers[i]->DriverInit))
+            return i;
+    return NOBODY;
+}
+
 static void touched(int signal_number, siginfo_t *info, void *context)
 {
     const size_t i = (size_t)((char *)info->si_addr - arena) / PAGE;
@@ -24,8 +35,9 @@ static void touched(int signal_number, siginfo_t *info, void *context)
         return;
     Packet *p = (char *)info->si_addr < arena || i >= MAX_PACKETS ? NULL : packets[i];
     const bool was_watched = p && unwatch(p);
-    const int toucher = self.frames ? self.frames->device : NOBODY;
-    if (was_watched && (!is_watcher(p) || (toucher >= 0 && p->owner == toucher))) { /* sent to itself, it has it */
+    if (was_watched && (!is_watcher(p) || is_code_of_holder(p, toucher_of(context)))) {
+        if (is_watcher(p))
+            self.opened = p;
         mprotect(arena + i * PAGE, PAGE, PROT_READ | PROT_WRITE);
         return;
     }
@@ -37,7 +49,8 @@ static void touched(int signal_number, siginfo_t *info, void *context)
     p->trapped = !was_watched;
     p->touch_untold = true;
     p->touched_at = toucher_of(context);
-    p->toucher = toucher;
+    p->toucher = self.frames ? self.frames->device : NOBODY;
+    p->toucher_calls = called_driver(p->touched_at);
     self.touched = p;
     mprotect(arena + i * PAGE, PAGE, PROT_READ | PROT_WRITE);
 }
@@ -113,7 +126,9 @@ void protect(Packet *p)
 
 static void tell(Packet *p)
 {
-    char where[200]; /* `run` has the line in place of the address */
+    char where[200], by[200]; /* `run` has the line in place of the address */
+    snprintf(by, sizeof by, p->toucher_calls < 0 ? "%s" : "(%s)",
+             p->toucher_calls < 0 ? who(p->toucher) : drivers[p->toucher_calls]->HostName);
     snprintf(where, sizeof where, "+0x%lx in %s", place_in_program(p->touched_at), function_name(p->touched_at));
     Call *const calls = self.calls, here = { .name = where, .by = p->touched_at };
     Frame *const frames = self.frames;
@@ -122,9 +137,9 @@ static void tell(Packet *p)
     self.frames = NULL;
     if (p->touched_by_sender)
         broken("TouchedAfterSend", p, "read or written by %s, which sent it at %s, and doesn't own it any more",
-               who(p->toucher), place(p->sites.sent));
+               by, place(p->sites.sent));
     else
-        fault("Touched", p, "read or written after its end by %s; it was completed at %s", who(p->toucher),
+        fault("Touched", p, "read or written after its end by %s; it was completed at %s", by,
               place_with_callers(p->sites.completed, &p->completers));
     self.calls = calls;
     self.frames = frames;

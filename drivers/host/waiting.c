@@ -9,7 +9,7 @@
 enum { LOOK_AGAIN = 100 }; /* milliseconds after which a waiter looks whether anything goes on */
 enum { MANY_TIMES = 10 };  /* so many times its patience a thread waits while others go on */
 static const LONGLONG UNIX_EPOCH = 116444736000000000; /* in 100 ns from 1601 */
-static _Atomic int sleepers; /* waits with a limit that go on */
+static _Atomic int sleepers; /* waits with a limit that go on, and threads that a seed lets sleep */
 static unsigned shake_seed;
 
 LONGLONG now_in_100ns(void)
@@ -177,8 +177,11 @@ static void shake(void)
     const unsigned r = (unsigned)rand_r(&self.chance) % 16;
     if (r < 4)
         sched_yield();
-    else if (r == 15)
+    else if (r == 15) {
+        sleepers++; /* a processor that is taken away wakes nobody */
         usleep((unsigned)rand_r(&self.chance) % 200);
+        sleepers--;
+    }
 }
 
 void point(const char *what, WDM_SITE at)

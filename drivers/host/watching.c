@@ -5,28 +5,62 @@
  */
 #include "host.h"
 
-static int driver_of(int device) { return device < 0 ? device : devices[device].raw->DriverObject->HostNumber; }
-
-static bool is_of(int owner, int by)
+/* The packet, or the innermost one that stands in for it and is on its way. */
+static const Packet *innermost(const Packet *p)
 {
-    return owner == by || (owner >= 0 && by >= 0 && driver_of(owner) == driver_of(by));
+    while (p->rider && p->rider->owner != ORIGINATOR)
+        p = p->rider;
+    return p;
+}
+
+/* The driver of a party of the packet: the originator's is the one that allocated it. */
+static int driver_of(const Packet *p, int party)
+{
+    return party >= 0 ? devices[party].raw->DriverObject->HostNumber : party == ORIGINATOR ? p->allocator : NOBODY;
+}
+
+static bool is_of(const Packet *p, int owner, int by)
+{
+    return owner == by || (driver_of(p, owner) != NOBODY && driver_of(p, owner) == driver_of(p, by));
 }
 
 /* Whether the dispatch that sent the packet has it back: its routine has kept it. */
 static bool is_back(const Packet *p, int by) { return p->asking && p->asking->device == by && !p->asking->passed; }
 
-/* Before IoCallDriver returns to the code of `by`. Where a dispatch will wait for its routine, a rider is below. */
-void watch_sent(Packet *p, int by, uint64_t use)
+/* Whether another driver than that of `by` has the packet, which isn't on its way up. Where a dispatch will wait for its
+   routine, a rider is below. */
+static bool is_away(const Packet *p, int by)
 {
     const Packet *r = p->rider;
-    if (!self.frames || !lives(p) || p->use != use || p->rides || is_of(r ? r->owner : p->owner, by))
-        return;
-    if (r ? r->unwinding || r->owner < 0 : is_back(p, by))
+    if (!lives(p) || p->rides || p->unwinding || is_of(p, r ? r->owner : p->owner, by))
+        return false;
+    return r ? !r->unwinding && r->owner >= 0 : !is_back(p, by);
+}
+
+static void watch(Packet *p)
+{
+    __atomic_store_n(&p->watched, true, __ATOMIC_SEQ_CST);
+    protect(p);
+}
+
+/* Before IoCallDriver returns to the code of `by`. */
+void watch_sent(Packet *p, int by, uint64_t use)
+{
+    if (!self.frames || p->use != use || !is_away(p, by))
         return;
     __atomic_store_n(&p->watcher, self.frames->number, __ATOMIC_SEQ_CST);
     __atomic_store_n(&p->watcher_calls, self.calls->up, __ATOMIC_SEQ_CST);
-    __atomic_store_n(&p->watched, true, __ATOMIC_SEQ_CST);
-    protect(p);
+    p->sent_by = by;
+    watch(p);
+}
+
+/* Under G, at a call of the host: a function of the driver that has the packet touched it, and its caller may not. */
+void watch_again(void)
+{
+    Packet *p = self.opened;
+    self.opened = NULL;
+    if (self.frames && self.frames->number == p->watcher && self.calls->up == p->watcher_calls && is_away(p, p->sent_by))
+        watch(p);
 }
 
 /* In the handler, or under G: the packet isn't watched any more. Returns whether it was. */
@@ -40,4 +74,13 @@ bool is_watcher(const Packet *p)
 {
     return self.frames && self.frames->number == __atomic_load_n(&p->watcher, __ATOMIC_SEQ_CST) &&
         self.calls == __atomic_load_n(&p->watcher_calls, __ATOMIC_SEQ_CST);
+}
+
+/* In the handler: whether the code at this place is of the driver that has the packet. It may have sent the packet to
+   itself; and a function that it exports may run under another driver's dispatch. */
+bool is_code_of_holder(const Packet *p, const void *at)
+{
+    const Packet *r = innermost(p);
+    const int driver = driver_of(p, r->owner);
+    return driver != NOBODY && (driver == running_driver() || is_code_of_one(at, (const void *)drivers[driver]->DriverInit));
 }

@@ -112,7 +112,7 @@ int main(int argc, char **argv)
     WdmSend(top, IRP_MJ_CREATE, 0, 0); /* the toaster has no dispatch for it */
     WdmControl(top, 0, 16);
     if (argc > 1)
-        run_rounds(top, atoi(argv[1]));
+        run_rounds(top, (int)WdmRounds((ULONG)atoi(argv[1])));
     else
         run_once();
     WdmSend(top, IRP_MJ_PNP, IRP_MN_REMOVE_DEVICE, 0);

@@ -13,8 +13,8 @@ use std::vec::IntoIter;
 /// As many threads as read a block at most.
 const MOST_THREADS: usize = 4;
 
-/// As many bytes as a block has at least of which several threads read: starting one takes as long as some lines.
-const LEAST_BYTES: usize = 65_536;
+/// As many bytes as a block has at least of which several threads read: starting one takes as long as a hundred lines.
+const LEAST_BYTES: usize = 262_144;
 
 /// How many threads read the lines of a block: one for each processor, and at most four. One where the processors can't
 /// be counted.

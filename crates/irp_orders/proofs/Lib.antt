@@ -4,4 +4,5 @@ mod Programs
 mod Ranking
 mod Righting
 mod Showing
+mod Telling
 mod Verdicts

@@ -8,3 +8,4 @@ pub mod Judging
 pub mod Program
 pub mod Right
 pub mod Rows
+pub mod Such

@@ -1,14 +1,34 @@
 //! Conditions on what the orders of a script leave.
 
-ghost use Rattle.std.specs.Prelude.{IfErr, IfOk};
-ghost use Rattle.irp_orders.specs.Conditions.{Says};
+ghost use Rattle.std.specs.Prelude.{All, IfErr, IfOk, IfSome};
+ghost use Rattle.irp_orders.specs.Conditions.{IsRefusalNamed, IsScopeOf, IsStatusNamed, Says};
 ghost use Rattle.irp_orders.specs.Program.{IsUnread};
 
 use crate::ending::Ending;
-use crate::names::value_names;
+use crate::names::{Names, value_names};
 use irp_condition::{Condition, Scope, read_condition};
 use irp_script_reader::Script;
 use std::alloc::Global;
+
+/// What conditions on a script may speak of, by these names of values. None where it has 2^32 steps or more.
+pub fn scope_of<'a>(script: &'a Script, names: &'a Names, knows_replies: bool) -> Option<Scope<'a>>
+    requires statuses { All IsStatusNamed names.now.statuses.items }
+    requires refusals { All IsRefusalNamed names.now.refusals.items }
+    ensures { IfSome result (IsScopeOf script.now knows_replies) }
+{
+    let parts = script.parts();
+    let Ok(steps) = u32::try_from(parts.steps.as_slice().len()) else {
+        return None;
+    };
+    Some(Scope {
+        labels: parts.labels.as_slice(),
+        steps,
+        locks: parts.locks,
+        knows_replies,
+        statuses: names.statuses.as_slice(),
+        refusals: names.refusals.as_slice(),
+    })
+}
 
 /// Reads a condition on what the orders of a script leave, whose replies are known or not.
 ///
@@ -25,17 +45,8 @@ pub fn condition_of(
     ensures unread { IfErr result (IsUnread script.now knows_replies text.now) }
 {
     let names = value_names(alloc)?;
-    let parts = script.parts();
-    let Ok(steps) = u32::try_from(parts.steps.as_slice().len()) else {
+    let Some(scope) = scope_of(script, &names, knows_replies) else {
         return Err(Ending::NoMemory);
-    };
-    let scope = Scope {
-        labels: parts.labels.as_slice(),
-        steps,
-        locks: parts.locks,
-        knows_replies,
-        statuses: names.statuses.as_slice(),
-        refusals: names.refusals.as_slice(),
     };
     match read_condition(alloc, text, scope) {
         Ok(condition) => Ok(condition),

@@ -18,6 +18,7 @@ use crate::exploring::founds_of;
 use crate::found::Found;
 use crate::never::{Judgment, marked, put_shown, shortest};
 use crate::right::is_right;
+use crate::such::put_such;
 use crate::table::{Columns, orders_of};
 use crate::wrongs::put_wrongs;
 use irp_listing::put_line;
@@ -104,6 +105,7 @@ fn told_wrong(
     if let Some(found) = founds.get(place) {
         put_shown(alloc, &mut out, columns, place, found)?;
         put_wrongs(alloc, &mut out, columns, setup, found)?;
+        put_such(alloc, &mut out, columns.script, &found.outcome.end)?;
     }
     Ok(out)
 }

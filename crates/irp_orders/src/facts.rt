@@ -141,7 +141,7 @@ fn deleted_of(alloc: Global, end: &End) -> Result<Vec<bool>, AllocError>
 }
 
 /// What conditions speak of at an end of a script with these steps. The one error is want of memory.
-fn facts_of(alloc: Global, steps: &[Step], end: &End) -> Result<Facts, AllocError>
+pub fn facts_of(alloc: Global, steps: &[Step], end: &End) -> Result<Facts, AllocError>
     ensures { IfOk result (λ facts. facts ≡ spec.facts_of steps.now end.now) }
 {
     let replies = Row::from_vec(replies_of(alloc, steps, end)?);

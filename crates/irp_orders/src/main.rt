@@ -21,6 +21,7 @@ mod names;
 mod never;
 mod right;
 mod steps;
+mod such;
 mod table;
 mod words;
 mod wrongs;

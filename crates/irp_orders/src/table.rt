@@ -1,5 +1,7 @@
 //! The table of outcomes.
 
+ghost use Rattle.std.specs.Prelude.{◌≡◌, IfOk, map, string_bytes};
+
 use crate::differing::Differing;
 use crate::ends::{DeviceEndWords, LabelWords, LiveWords, LocationWords, LockWords, SlotWords};
 use crate::found::Found;
@@ -82,12 +84,16 @@ pub fn orders_of(founds: &[Found]) -> u128 {
 }
 
 impl<'a> Columns<'a> {
-    /// What the table of these outcomes tells.
+    /// What the table of these outcomes tells. The one error is want of memory.
     pub fn of(
         alloc: Global,
         script: &'a Script,
         founds: &[Found],
-    ) -> Result<Columns<'a>, AllocError> {
+    ) -> Result<Columns<'a>, AllocError>
+        ensures script { IfOk result (λ columns. columns.script.now ≡ script.now) }
+        ensures labels { IfOk result (λ columns.
+            map string_bytes columns.labels.now ≡ script.now.labels) }
+    {
         let parts = script.parts();
         let labels = parts.labels.as_slice();
         Ok(Columns {
