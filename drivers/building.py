@@ -38,6 +38,13 @@ def stem(path):
     return "_" + name if name[:1].isdigit() else name
 
 
+def place_of(path):
+    """Returns the name of the folder below out/ for a run of this file: the file's, behind that of its folder as named."""
+    above = os.path.basename(os.path.dirname(path.rstrip("/"))).strip(".")
+    name = os.path.splitext(os.path.basename(path.rstrip("/")))[0]
+    return re.sub(r"\W", "_", f"{above}_{name}" if above else name)
+
+
 def files_of(named):
     if os.path.isdir(named):
         found = sorted(os.path.join(named, name) for name in os.listdir(named) if name.endswith(".c"))

@@ -17,7 +17,8 @@ are one driver. `run` links each driver by itself, so its globals don't meet tho
 A file with `main`, or with tests by WDM_TEST(NAME), is the test (include/wdm_test.h has what it calls). Where there is
 none, the host's own test runs: it starts the stack over bottom devices, sends and cancels requests, and removes it.
 
-What is built goes below drivers/out, or the folder that WDM_OUT names. A run of the same name waits for another one there."""
+What is built goes below drivers/out, or the folder that WDM_OUT names, in a folder that has the name of the first FILE and
+of its folder. A run of the same name waits for another one there."""
 
 EPILOG = """examples:
   run mydriver.c                         one driver, tested by the host
@@ -69,7 +70,7 @@ def add_test(parser):
     group.add_argument("--threads", type=int, metavar="N", help="threads that the host's test sends from (1 to 16)")
     group.add_argument("--controls", metavar="CODE,..", help="control codes that the host's test sends")
     group.add_argument("--scenario", choices=orders.SCENARIOS,
-                       help="one piece of the host's test, for --every-order")
+                       help="one scenario of the host's test, for --every-order")
     group.add_argument("--patience", type=int, metavar="S", help="a wait hangs after S quiet seconds (3)")
     group.add_argument("--timeout", type=int, default=120, metavar="S", help="end a run after so many seconds (120)")
 
@@ -155,7 +156,10 @@ def parser_of():
 
 def read_arguments():
     """Returns what `run` was asked."""
-    options = parser_of().parse_args()
+    parser = parser_of()
+    options = parser.parse_intermixed_args()
+    if options.scenario and not (options.every_order or options.schedule):
+        parser.error("--scenario goes with --every-order or --schedule")
     options.source += [file for _, file in options.on]
     if options.on:
         options.settings["WDM_ON"] = ";".join(f"{stem(file)}={child}" for child, file in options.on)

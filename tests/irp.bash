@@ -46,6 +46,23 @@ gives 4 /dev/null ran
 has='a lesson and a file are wanted'
 gives 2 /dev/null lesson
 
+# A program that the environment names is run; one that can't be run is told, and bin/irpx doesn't run itself.
+printf '#!/bin/sh\necho "stand-in $*"\n' >"$room/stand_in"
+chmod 755 "$room/stand_in"
+named() {
+    local -x "$1=$2"
+    shift 2
+    gives "$@"
+}
+for word in 'IRPX check' 'IRP_VIEW text' 'IRP_WORDS words' 'IRP_ORDERS orders' 'IRP_LIVE live'; do
+    has=stand-in
+    named "${word% *}" "$room/stand_in" 0 /dev/null "${word#* }"
+done
+has="IRPX names $room/script, which can't be run"
+named IRPX "$room/script" 6 /dev/null check
+has='legal 8'
+named IRPX ../bin/irpx 0 "$room/transcript" check
+
 # Each program has a manual page, with each section, and no word of it is lost.
 words_of() {
     tr A-Z a-z | grep -oE '[a-z]{4,}' | sort -u

@@ -59,6 +59,8 @@ hand_in 5 5 answer 's/    KeSetEvent/    if (Irp->PendingReturned)\n    &/;s/   
 hand_in 5 5 answer 's/(Ext->IsStarted = )[^;]*;/if (status >= 0)\n        \1TRUE;/' 0 'lesson 5: right'
 hand_in 6 6 answer 's/ && IoSetCancelRoutine\(Irp, NULL\) != NULL//' 1 'and takes the routine out again?'
 hand_in 6 6 answer 's/(if \(Irp->Cancel) && (IoSetCancelRoutine\(Irp, NULL\)) != NULL\)\n( *)(isHeld = FALSE;)/\1) {\n\3\2;\n\3\4\n    }/' 1 'Think: Two places complete'
+hand_in 7 7 answer 's/(e != &Reads) && oldest == NULL/\1 \&\& e == Reads.Flink/' 1 'Whom does the write answer then?'
+hand_in 7 7 answer 's/(NULL\) != NULL\))\n( *)(oldest = irp;)/\1 {\n\2\3\n\2break;\n        }/' 0 'lesson 7: right'
 hand_in 9 8 answer '' 1 'a read that is kept with a cancel routine'
 
 said=$(../lessons/check --all)

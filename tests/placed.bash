@@ -1,7 +1,7 @@
 #!/bin/bash
 # Shows that `bin/placed`, and so `irp text`, `page`, `packet` and `why`, puts names and lines from a file of places beside
-# entries and answers, escapes them in a page, and that a file that is missing, short, spoiled or of another transcript is
-# told and left out. IRP_VIEW names irp_view; without it, it is the one that bin/irp_view runs.
+# entries and answers, escapes them in a page, and that a file that is short, spoiled or of another transcript is told and
+# left out. IRP_VIEW names irp_view; without it, it is the one that bin/irp_view runs.
 # Each failure has a line of its own. Ends with status 0 where all was as expected, else with 1.
 set -u
 cd "$(dirname "$(readlink -f "$0")")" || exit 1
@@ -38,7 +38,8 @@ made = [{'bytes': len(text), 'cancels': names('C', len(head['cancels'])),
 for it in entries:
     asked = [at(1000 * it['n'] + turn) for turn in range(len(it['asked']))]
     by = {**at(it['n']), 'driver': 'other'} if it['n'] else {}
-    made.append({'asked': asked, 'by': {**by, 'under': 'R<>'} if it['n'] == 2 else by, 'n': it['n']})
+    by = {**by, 'under': 'R<>'} if it['n'] == 2 else {**by, 'by_host': True} if it['n'] == 3 else by
+    made.append({'asked': asked, 'by': by, 'n': it['n']})
 open(path + '.places', 'w').write(''.join(json.dumps(it) + '\n' for it in made))
 ENDS
 }
@@ -65,6 +66,8 @@ meets 'each answer has its line' [ "$(grep -cE '\[a<b>&"c\.c:[0-9]+ in F<i>\]$' 
 meets 'answers have theirs in order' grep -qF "[a<b>&\"c.c:$((1000 * entry + 1)) in F<i>]" "$room/text"
 meets 'another call is named' grep -qF '[by IoCallDriver: a<b>&"c.c:1 in F<i>, other]' "$room/text"
 meets 'the routine that ran is named' grep -qF 'a<b>&"c.c:2 in F<i> under R<>, other]' "$room/text"
+meets 'a call of the host itself says so' \
+    grep -qE '^ +3  .* \[made by the host, so that the run goes on after a<b>&"c\.c:3 in F<i>, other\]$' "$room/text"
 meets 'where there is no place there is none' grep -qE '^ +0  .* -> D0 \[bus <&>\]$' "$room/text"
 ../bin/irp packet 0 1 --entries "$entry..$sent" "$kept" >"$room/packet"
 meets 'one packet' grep -qF "c.c:$entry in F<i>" "$room/packet"
@@ -101,7 +104,7 @@ is_left_out() {
 }
 
 mv "$why.places" "$room/right"
-is_left_out "isn't there"
+meets 'without a file of places all is irp_view'\''s' cmp -s <("$IRP_VIEW" text "$why" 2>&1) <(../bin/irp text "$why" 2>&1)
 head -n -1 "$room/right" >"$why.places"
 is_left_out 'ends early'
 cp "$kept.places" "$why.places"

@@ -194,8 +194,9 @@ static void tell_unmarked(Packet *p, int by)
 void complete(Packet *p, int by, ULONG status, uint64_t information)
 {
     const char *no;
-    for (;;) {
+    for (bool by_host = false;; by_host = true) {
         Entry *e = begin(COMPLETE, p, by);
+        e->by_host = by_host;
         e->status = status;
         e->information = information;
         no = rules_refusal(e);
@@ -211,13 +212,14 @@ void complete(Packet *p, int by, ULONG status, uint64_t information)
             p->irp->IoStatus.Status = STATUS_UNSUCCESSFUL;
         } else if (!strcmp(no, "CancelRoutineSet")) {
             e = begin(SET_CANCEL, p, by);
+            e->by_host = true;
             e->reply = PREVIOUS;
             e->seen.routine = p->routine;
             seal(e, false);
             p->routine = p->irp->CancelRoutine = NULL;
         } else
             return;
-        say("IRP %u.%lu is completed in its place, so that the run goes on", p->slot, (unsigned long)p->use);
+        say("the host itself completes IRP %u.%lu for %s, so that the run goes on", p->slot, (unsigned long)p->use, who(by));
     }
 }
 

@@ -87,7 +87,7 @@ struct Entry {
     uint64_t use, word, information;
     ULONG status;
     UCHAR major;
-    bool drained, cancel, sealed;
+    bool drained, cancel, sealed, by_host; /* by_host: the host made the call, so that the run goes on */
     Setting *set;
     PDRIVER_CANCEL routine;
     Asked *asked;

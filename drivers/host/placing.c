@@ -79,6 +79,8 @@ static void put_caller(FILE *o, const Entry *e)
     put_place(o, &e->at);
     if (!e->at.site.file || !e->at.call)
         return;
+    if (e->by_host)
+        fputs(",\"by_host\":true", o);
     if (e->driver >= 0) {
         fputs(",\"driver\":", o);
         put_string(o, drivers[e->driver]->HostName);

@@ -6,7 +6,7 @@
 #include "host.h"
 
 enum { MAX_LOCKS = MAX_DEVICES + 64 };
-typedef struct { PVOID tag; int seat, device; UCHAR major; bool in_dispatch; WDM_SITE at; } Held;
+typedef struct { PVOID tag; int seat, device; UCHAR major; bool in_dispatch; WDM_SITE at; const Packet *p; uint64_t use; } Held;
 typedef struct { PIO_REMOVE_LOCK raw; WDM_SITE made; Held held[MAX_HELD]; int n; bool removed; uint64_t knows; } Lock;
 
 static Lock locks[MAX_LOCKS];
@@ -31,21 +31,40 @@ static void write_word(const char *act, int lock, PVOID tag, const char *reply, 
 
 bool lock_knows_drained(int device) { return locks[device].knows >> self.seat & 1; }
 
+/* The packet whose pointer the tag is, and what became of it; empty where there is none. */
+static const char *tagged(const Held *h)
+{
+    static _Thread_local char text[80];
+    const Packet *p = h->p;
+    if (!p)
+        return "";
+    const int n = snprintf(text, sizeof text, " (IRP %u.%lu", p->slot, (unsigned long)h->use);
+    if (p->use != h->use || !p->live)
+        snprintf(text + n, sizeof text - (size_t)n, ", which has ended)");
+    else if (p->owner == ENDED)
+        snprintf(text + n, sizeof text - (size_t)n, ", which ended with 0x%x)", (unsigned)p->status);
+    else
+        snprintf(text + n, sizeof text - (size_t)n, ", which hasn't ended)");
+    return text;
+}
+
 /* Who holds the lock: tags, and where they were taken. */
 const char *held_tags(int device)
 {
-    static _Thread_local char text[400];
+    static _Thread_local char text[600];
     size_t n = 0;
     const Lock *k = &locks[device];
     if (!k->n)
         return k->removed ? "" : "; no IoReleaseRemoveLockAndWait has returned";
     for (int i = 0; i < k->n && i < 4 && n < sizeof text; i++) {
         const Held *h = &k->held[i];
-        n += (size_t)snprintf(text + n, sizeof text - n, "%stag %lu, taken at %s in %s%s%s%s", n ? "; " : ": ",
-                              (unsigned long)number_of(h->tag), place(h->at), h->at.function ? h->at.function : "?",
+        n += (size_t)snprintf(text + n, sizeof text - n, "%stag %lu%s, taken at %s in %s%s%s%s", n ? "; " : ": ",
+                              (unsigned long)number_of(h->tag), tagged(h), place(h->at), h->at.function ? h->at.function : "?",
                               h->in_dispatch ? " (dispatch for " : "", h->in_dispatch ? major_name(h->major) : "",
                               h->in_dispatch ? ")" : "");
     }
+    if (k->n > 4 && n < sizeof text)
+        snprintf(text + n, sizeof text - n, "; and %d more", k->n - 4);
     return text;
 }
 
@@ -129,10 +148,20 @@ NTSTATUS WdmIoAcquireRemoveLock(PIO_REMOVE_LOCK RemoveLock, PVOID Tag, WDM_SITE 
         give_up("a remove lock is held 1,024 times");
     if (!removed)
         k->held[k->n++] = (Held){ .tag = Tag, .seat = self.seat, .device = f ? f->device : NOBODY, .at = at,
-                                  .in_dispatch = f && f->kind == DISPATCH, .major = f ? f->major : 0 };
+                                  .in_dispatch = f && f->kind == DISPATCH, .major = f ? f->major : 0,
+                                  .p = f && f->p && f->p->irp == Tag ? f->p : NULL, .use = f ? f->use : 0 };
     write_word("acquire", d, Tag, removed ? "{\"status\":3221225558}" : "{\"status\":0}", self.seat, -1);
     leave_host();
     return removed ? STATUS_DELETE_PENDING : STATUS_SUCCESS;
+}
+
+/* The live packet whose pointer the tag is, or NULL. */
+static const Packet *packet_of_tag(PVOID tag)
+{
+    for (int i = n_packets - 1; i >= 0; i--)
+        if (packets[i]->live && packets[i]->irp == tag && !packets[i]->rides)
+            return packets[i];
+    return NULL;
 }
 
 /* Gives one reference back: this seat's under the tag, else another seat's, which is handed over first. */
@@ -145,8 +174,10 @@ static bool give_back(int d, PVOID tag, const char *act)
             found = i;
     if (found < 0) {
         write_word(act, d, tag, "\"not_held\"", self.seat, -1);
-        fault("NotHeld", NULL, "%s is released under a tag that isn't held (tag %lu)%s%s", lock_name(d),
-              (unsigned long)number_of(tag), k->n ? "; held" : "", k->n ? held_tags(d) : "");
+        const Packet *p = packet_of_tag(tag);
+        const Held none = { .p = p, .use = p ? p->use : 0 };
+        fault("NotHeld", NULL, "%s is released under tag %lu%s, which isn't held%s%s", lock_name(d),
+              (unsigned long)number_of(tag), tagged(&none), k->n ? "; held" : "", k->n ? held_tags(d) : "");
         return false;
     }
     if (k->held[found].seat != self.seat)

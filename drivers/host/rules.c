@@ -1,5 +1,6 @@
 /*
- * rules.c: which call docs/RULES.md refuses, and under which name. Nothing else in the host knows that.
+ * rules.c: which call docs/RULES.md refuses, and under which name. Only this file decides
+ * it. Others act on what it says: grep the refusal's name.
  *
  * The interface is one question: the call, not yet in the history; the answer is the refusal's name or NULL. So a
  * program that keeps the state by itself can answer in its place: it gets each settled entry, and this question before

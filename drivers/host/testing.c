@@ -245,7 +245,9 @@ static size_t write_out(void)
         write_places(path, n);
     hand_in(text, length, n);
     write_summary(n);
-    say("%zu entries, %d faults, %d notes, %d settled early by another thread", n, n_faults, n_notes, n_early);
+    say("%zu entries, %d faults, %d notes", n, n_faults, n_notes);
+    if (n_early)
+        say("recorded before the dispatch returned, since another thread had the packet: %d", n_early);
     return n;
 }
 

@@ -1,7 +1,7 @@
 /* A device that answers each request at once.
  *
  * Why. A packet is completed by IoCompleteRequest and by nothing else: the status in the packet and the return
- * value end no request. Only that call wakes whoever waits for the packet. Fill in IoStatus first, since behind the
+ * value end no request. Only that call wakes whoever waits for the packet. Fill in IoStatus first, since after the
  * call the packet isn't yours any more: the return value comes from a constant or a local variable, never from the
  * packet. */
 #include <wdm.h>

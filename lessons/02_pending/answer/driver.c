@@ -2,7 +2,7 @@
  *
  * Why. IoMarkIrpPending sets the mark that STATUS_PENDING promises, and the I/O manager reads the mark. It comes
  * before IoQueueWorkItem, because the work item may complete the packet before that call returns: then the mark is
- * too late, and writes to a packet that has ended. It comes behind the allocation: a packet that the dispatch
+ * too late, and writes to a packet that has ended. It comes after the allocation: a packet that the dispatch
  * completes at once, with STATUS_INSUFFICIENT_RESOURCES, isn't pending. */
 #include <wdm.h>
 

@@ -1,6 +1,6 @@
 /* A filter that remembers how long the last read was.
  *
- * Why. Behind IoCallDriver the packet belongs to the drivers below, and it may have ended and been freed. A
+ * Why. After IoCallDriver the packet belongs to the drivers below, and it may have ended and been freed. A
  * completion routine runs while the packet passes your location on its way up: there it is yours to read. So the
  * skip becomes a copy with a routine, and the routine passes the mark up. To forward, wait and complete the read
  * yourself is right, too; it holds up a thread. */

@@ -2,7 +2,8 @@
  *
  * Why. Each IoAcquireRemoveLock needs one IoReleaseRemoveLock, on each way that the packet can take. A read that
  * fails comes back by the routine, too, and must give its reference back there. On Windows
- * IoReleaseRemoveLockAndWait would never return, and with it the removal. */
+ * IoReleaseRemoveLockAndWait would never return, and with it the removal. PassDown may release early: after a skip none
+ * of the driver's code runs again for this packet. After a copy with a routine it does. */
 #include <wdm.h>
 
 typedef struct { PDEVICE_OBJECT Lower; IO_REMOVE_LOCK RemoveLock; } EXTENSION, *PEXTENSION;
