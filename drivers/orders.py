@@ -26,8 +26,8 @@ MANY = 200  # decisions of a run, from which on a test is told to be made smalle
 # The pieces of the host's own test (host/overlaps.c).
 SCENARIOS = {"overlap": "a read and a write at once", "cancel": "a read that is cancelled meanwhile",
              "power": "power goes and comes while a read is under way",
-             "remove": "the device is removed while it holds a read",
-             "surprise": "the device is gone while it holds a read"}
+             "remove": "the device is removed while it holds reads",
+             "surprise": "the device is gone while it holds reads"}
 
 
 @functools.lru_cache
@@ -176,11 +176,26 @@ def tell_small(report):
 def tell_places(report, with_lines):
     if report.racy:
         print("accesses that race: " + "; ".join(with_lines(it) for it in report.racy))
+    if report.facts.get("ended") == "failed":
+        return
     never = sorted({with_lines(text) for was, text in report.places if not was} -
                    {with_lines(text) for was, text in report.places if was})
     if never:
-        print(f"never preempted before {len(never)} of {len(set(it[1] for it in report.places))} places: "
-              + "; ".join(never[:8]) + ("; .." if len(never) > 8 else ""))
+        print(f"no thread was preempted before {len(never)} of {len(set(it[1] for it in report.places))} places, where the "
+              f"test may let too little overlap: " + "; ".join(never[:8]) + ("; .." if len(never) > 8 else ""))
+
+
+@functools.lru_cache
+def status_names():
+    """Returns the names of statuses by their values: of several names the first one that the header has."""
+    with open(os.path.dirname(os.path.abspath(__file__)) + "/include/wdm_status.h", encoding="ascii") as it:
+        found = re.findall(r"^#define (STATUS_\w+) \(\(NTSTATUS\)(0x[0-9A-F]{8})\)", it.read(), re.M)
+    return {int(value, 16): name for name, value in reversed(found)}
+
+
+def with_status_names(outcome):
+    """Returns an outcome with its statuses by name."""
+    return re.sub(r"(?<!sent) (0x[0-9a-f]+|0)\b", lambda it: " " + status_names().get(int(it[1], 16), it[1]), outcome)
 
 
 def tell_outcomes(report):
@@ -188,7 +203,8 @@ def tell_outcomes(report):
     whole = sum(classes for classes, _ in report.outcomes)
     print(f"outcomes: {len(report.outcomes)}, of {plural(whole, 'class')} of orders")
     for at, (classes, text) in enumerate(sorted(report.outcomes, reverse=True)[:20], 1):
-        print(f"outcome {at}: {classes:,} of {plural(whole, 'class')} of orders ({100 * classes / whole:.1f} %)\n    {text}")
+        print(f"outcome {at}: {classes:,} of {plural(whole, 'class')} of orders ({100 * classes / whole:.1f} %)\n    "
+              f"{with_status_names(text)}")
 
 
 def first_fault(run):

@@ -218,6 +218,18 @@ FAULTS = [
             "    ObDereferenceObject(((PEXTENSION)DriverObject->DeviceObject->DeviceExtension)->LowerFile);\n"
             "    IoDeleteDevice(DriverObject->DeviceObject);\n}")],
           ["NotReferenced", "direct.c:", "Unload", "ObDereferenceObject"]),
+    stack("a master counts one part less than it has", "mirror.c", [("IrpCount = SIDES;", "IrpCount = SIDES - 1;")],
+          ["NoMaster", "its master has ended before"], verdict=None),
+    stack("a routine frees what was built, and lets it go on", "mirror.c",
+          [("    Complete(read, status, length);\n    return STATUS_MORE_PROCESSING_REQUIRED;",
+            "    Complete(read, status, length);\n    return STATUS_CONTINUE_COMPLETION;")],
+          ["GivenAway", "ReadDone, completion routine of (mirror) for its own packet"], verdict=None),
+    stack("a file's handle is closed twice", "journal.c",
+          [("        ZwClose(Ext->File);\n", "        ZwClose(Ext->File), ZwClose(Ext->File);\n")],
+          ["NotOpen", "journal.c:", "Close", "ZwClose"]),
+    stack("a list of who is allowed isn't freed", "journal.c",
+          [("        ExFreePoolWithTag(Ext->Allowed, 'nruJ');\n", "        (void)0;\n")],
+          ["PoolLeak", "journal.c:", "in AllowAll: never freed"]),
     stack("a cancel routine doesn't complete", "serial.c",
           [("    Complete(Irp, STATUS_CANCELLED, 0);\n}", "    (void)Irp;\n}")],
           ["CancelledAndHeld", "serial.c:57", "D0 (serial) still holds it", "its cancel routine has run",
@@ -321,6 +333,9 @@ STOPPED = "STOPPED: "
 HOSTILE = {
     "touches_null": [STOPPED + "it touches what is no memory at address 0x10",
                      "at touches_null.c:6 in Helper, called at touches_null.c:10 in Read"],
+    "has_no_buffer": [STOPPED + "it touches what is no memory at address 0, at has_no_buffer.c:8 in Read",
+                      "(READ) has no MdlAddress and no SystemBuffer, because D0 (has_no_buffer) doesn't set DO_BUFFERED_IO or "
+                      "DO_DIRECT_IO"],
     "calls_no_function": [STOPPED + "there is no function at address 0x10", "at calls_no_function.c:8 in Read"],
     "has_a_bad_dispatch": [STOPPED + "there is no function at address 0x1234",
                            "0x1234, which is no function), dispatch for WRITE of D0 (has_a_bad_dispatch)"],

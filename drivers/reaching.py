@@ -7,6 +7,7 @@ import planted
 
 HERE = os.path.dirname(os.path.abspath(__file__))
 MISTAKES = HERE + "/untested/mistakes.c"
+PENDS = HERE + "/races/untested/pends.c"
 NO_COMPLAINT = None
 
 
@@ -71,8 +72,31 @@ def samples(bench):
     yield "the host's own test over the samples", NO_COMPLAINT if not status else said[-900:]
 
 
+def held_at_removal(bench):
+    """Gives a complaint where a driver whose removal leaves reads in its queue isn't told, by its line, or where it is told
+    of one that ends them: plainly, and in every order."""
+    with open(PENDS, encoding="utf-8") as it:
+        number = next(n for n, line in enumerate(it, 1) if "/* told: NotDrained */" in line)
+    told = re.compile(rf"^host: FAULT NotDrained .*: pends\.c:{number} in Pnp .*pends\.c:\d+ in Read ", re.M)
+    orders = ["--every-order", "--preemptions", "1", "--processes", "1", "--judge", "2", "--scenario"]
+    for name, words in (("plainly", []), ("removed, every order", [*orders, "remove"]),
+                        ("gone by surprise, every order", [*orders, "surprise"])):
+        said, status = run(bench, "--cflag=-DRIGHT", "--cflag=-DUNDRAINED", *words, PENDS)
+        yield f"reads are held at a removal, {name}", NO_COMPLAINT if status == 1 and told.search(said) else said[-900:]
+        said, status = run(bench, "--cflag=-DRIGHT", *words, PENDS)
+        yield f"reads are ended by a removal, {name}", NO_COMPLAINT if not status and "FAULT" not in said else said[-900:]
+
+
+def with_its_flag(bench):
+    """Gives a complaint where a driver that sets DO_BUFFERED_IO has no system buffer. Without it hostile/ tells that."""
+    said, status = run(bench, "--cflag=-DRIGHT", HERE + "/hostile/has_no_buffer.c")
+    yield "a read has a system buffer by DO_BUFFERED_IO", NO_COMPLAINT if not status else said[-900:]
+
+
 def tests(bench):
     """Returns the tests: of each a name, and a call that gives names and complaints."""
     return [("own test, mistakes", lambda: mistakes(bench)), ("own test, samples", lambda: samples(bench)),
+            ("own test, held at removal", lambda: held_at_removal(bench)),
+            ("own test, a buffer's flag", lambda: with_its_flag(bench)),
             ("own test, children", lambda: children(bench)),
             *((f"own test, stack {it}", lambda it=it: silent(bench, it)) for it in planted.FOR_OWN_TEST)]

@@ -44,6 +44,8 @@ RESULTS = {
     "direct": [(3, "CREATE SUCCESS 0"), (3, "CLEANUP SUCCESS 0"), (3, "CLOSE SUCCESS 0"), (3, "CONTROL SUCCESS 12288"),
                (1, "CONTROL INVALID_DEVICE_REQUEST 0"), (6, "READ SUCCESS 6144")],
     "settings": [(5, "PNP SUCCESS 0"), (3, "PNP NOT_SUPPORTED 0"), (3, "READ SUCCESS 0")],
+    "mirror": [(4 + 2 * 4, "WRITE SUCCESS 8"), (2 * 2, "READ SUCCESS 8"), (2 * 2, "READ SUCCESS 9")],
+    "journal": [(3, "WRITE SUCCESS 7")],
     "shared": [(16, "WRITE SUCCESS 0"), (8, "READ SUCCESS 4")]}
 
 # The manager's requests in "enumerate", twice: of each of three children four ids, capabilities twice and a start succeed,
@@ -67,6 +69,8 @@ ENTRIES = {
     "port": (86, 86),         # 1; 12 reads of 7; 1
     "direct": (92, 92),       # 2; 9 opens, cleanups and closes of 4; 3 controls of 4 with 2 packets of 6; one of 4; 2
     "settings": (60, 60),     # 3; a start of 12; 6 requests of the manager of 5; 3 reads of 4; 3
+    "mirror": (118, 118),     # 6; 4 writes of 5, with parts of 5 and 6; 4 reads of 5, with a packet of 7
+    "journal": (14, 14),      # 1; 3 writes of 4; 1
     "shared": (98, 98)}       # 1; 24 requests of 4; 1
 
 

@@ -171,6 +171,7 @@ PDEVICE_OBJECT WdmCreateBottomOf(ULONG Style)
     KeInitializeSpinLock(&ext->Lock);
     InitializeListHead(&ext->Waiting);
     IoCsqInitialize(&ext->Queue, Insert, Remove, PeekNext, Acquire, Release, CompleteCanceled);
+    device->Flags |= DO_BUFFERED_IO; /* which a filter copies */
     device->Flags &= ~(ULONG)DO_DEVICE_INITIALIZING;
     return device;
 }

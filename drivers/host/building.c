@@ -51,8 +51,9 @@ PIRP WdmBuildFsd(ULONG Major, PDEVICE_OBJECT Device, PVOID Buffer, ULONG Length,
     WdmIoGetNextIrpStackLocation(irp, at)->FileObject = irp->Tail.Overlay.OriginalFileObject = NULL;
     if (Offset)
         WdmIoGetNextIrpStackLocation(irp, at)->Parameters.Read.ByteOffset = *Offset;
-    if (Buffer && Major == IRP_MJ_WRITE && irp->AssociatedIrp.SystemBuffer)
-        memcpy(irp->AssociatedIrp.SystemBuffer, Buffer, Length);
+    PVOID own = irp->MdlAddress ? irp->MdlAddress->MappedSystemVa : irp->AssociatedIrp.SystemBuffer;
+    if (Buffer && Major == IRP_MJ_WRITE && own)
+        memcpy(own, Buffer, Length);
     write_back(irp, Buffer, Major == IRP_MJ_READ ? Length : 0);
     return irp;
 }

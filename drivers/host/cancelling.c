@@ -3,6 +3,18 @@
 
 static KSPIN_LOCK cancel_lock;
 
+/* Where a driver wanted to take the cancel routine out after that had begun, as the second half of a fault; empty where
+   none did. What it does then without looking is mostly the cause. */
+const char *none_taken(const Packet *p)
+{
+    static _Thread_local char text[240];
+    *text = 0;
+    if (p && p->ran && p->sites.none_taken.file)
+        snprintf(text, sizeof text, "; IoSetCancelRoutine at %s returned NULL: %s had begun", place(p->sites.none_taken),
+                 function_name((void *)p->ran));
+    return text;
+}
+
 /* A cancel routine that came after the cancel, and that wasn't taken back: now it becomes an entry. */
 void tell_ghost(Packet *p)
 {
@@ -54,6 +66,8 @@ PDRIVER_CANCEL WdmIoSetCancelRoutine(PIRP Irp, PDRIVER_CANCEL Routine, WDM_SITE 
             p->routine = Irp->CancelRoutine = Routine;
         }
     }
+    if (!Routine && !old && lives(p) && p->ran)
+        p->sites.none_taken = at;
     leave_host();
     return old;
 }

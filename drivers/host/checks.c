@@ -72,7 +72,8 @@ VOID WdmListIsCorrupt(PCSTR Name, WDM_SITE at)
 {
     Call c;
     enter_quietly(&c, Name, at);
-    broken("ListCorrupt", NULL, "the entry's neighbours don't point to it: it was removed before, or never inserted");
+    broken("ListCorrupt", NULL, "the entry's neighbours don't point to it: it was removed before, or never inserted%s",
+           self.frames ? none_taken(self.frames->p) : "");
     leave_host();
 }
 

@@ -89,6 +89,7 @@ bool unwatch(Packet *p);
 bool is_watcher(const Packet *p);
 bool is_code_of_holder(const Packet *p, const void *at);
 void check_completion(const Packet *p, int by, ULONG status, uint64_t information);
+void check_dispatch_there(const Packet *p, int d, UCHAR major);
 void check_sending(const Packet *p, int by);
 
 /* low_memory.c */

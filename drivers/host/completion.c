@@ -11,7 +11,8 @@ static bool is_met(const Packet *p, const Setting *set)
 /* What was read goes to the buffer of whoever had the packet built. */
 static void copy_out(const Packet *p)
 {
-    PVOID from = p->irp->AssociatedIrp.SystemBuffer, to = p->irp->UserBuffer;
+    const bool is_direct = p->buffer && p->irp->MdlAddress == p->buffer;
+    PVOID from = is_direct ? p->bytes->bytes : p->irp->AssociatedIrp.SystemBuffer, to = p->irp->UserBuffer;
     if (from && to && from != to && NT_SUCCESS(p->irp->IoStatus.Status) && p->irp->IoStatus.Information <= p->room)
         memcpy(to, from, p->irp->IoStatus.Information);
 }

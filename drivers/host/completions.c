@@ -78,6 +78,23 @@ static void check_power(const Packet *p, const IO_STACK_LOCATION *l, int by, ULO
         broken("NotPassedDown", p, "%s completes IRP_MN_SET_POWER, and the drivers below haven't seen it", who(by));
 }
 
+/* Without a dispatch the I/O manager fails the request. A driver that stands on another one passes on what it doesn't handle
+   of these. */
+void check_dispatch_there(const Packet *p, int d, UCHAR major)
+{
+    if (devices[d].lower < 0 || (major != IRP_MJ_PNP && major != IRP_MJ_POWER && major != IRP_MJ_SYSTEM_CONTROL))
+        return;
+    Call then = { .name = "IoCreateDevice", .at = devices[d].created };
+    Call *const calls = self.calls;
+    Frame *const frames = self.frames;
+    self.calls = &then; /* not the call that sends it, which is another's */
+    self.frames = NULL;
+    broken("NotPassedDown", p, "%s has no dispatch for IRP_MJ_%s, and the request never reaches %s: set "
+           "MajorFunction[IRP_MJ_%s]", who(d), major_name(major), who(devices[d].lower), major_name(major));
+    self.calls = calls;
+    self.frames = frames;
+}
+
 /* A device that has the packet completes it. */
 void check_completion(const Packet *p, int by, ULONG status, uint64_t information)
 {

@@ -8,6 +8,7 @@ static bool is_finished, is_short;
 
 void note_fault(const char *text)
 {
+    remember_fault();
     if (!first_fault[0])
         snprintf(first_fault, sizeof first_fault, "%s", text);
 }
@@ -67,7 +68,7 @@ static size_t put_packet(char *text, size_t room, const Packet *p)
     if (p->rides)
         return 0;
     return (size_t)snprintf(text, room, "%s %#x%s%s; ", p->sites.sent.file ? major_name(p->major) : "never sent",
-                            p->status, p->cancel ? " cancelled" : "",
+                            p->status, p->cancel ? ", with Irp->Cancel set" : "",
                             lives(p) && p->owner >= 0 ? " not completed" : "");
 }
 

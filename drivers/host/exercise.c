@@ -13,7 +13,7 @@
 extern const struct { const char *name; PDRIVER_INITIALIZE entry; } wdm_drivers[];
 extern const int wdm_n_drivers;
 
-enum { UNKNOWN_MINOR = 0x7f, MAX_CHILDREN = 16, MAX_HELD = 8 };
+enum { UNKNOWN_MINOR = 0x7f, MAX_CHILDREN = 16, MAX_ASKED = 16 };
 enum { PATIENT = 50, SHORTLY = 10 }; /* milliseconds before a request is cancelled */
 static PDEVICE_OBJECT top_of_threads;
 static PDRIVER_OBJECT loaded[64];
@@ -127,34 +127,9 @@ static void stop_and_start(PDEVICE_OBJECT bottom, PDEVICE_OBJECT top)
     WdmSend(top, IRP_MJ_PNP, IRP_MN_CANCEL_REMOVE_DEVICE, 0);
 }
 
-/* The device is gone while a read and a write are under way; who has it open closes it, and only then it is removed. */
-static void remove_by_surprise(PDEVICE_OBJECT bottom, PDEVICE_OBJECT top)
-{
-    Request read, write;
-    const BOOLEAN reads = start_request(&read, top, transfer(IRP_MJ_READ, 16), PLAIN);
-    const BOOLEAN writes = start_request(&write, top, transfer(IRP_MJ_WRITE, 16), KEPT);
-    WdmSurprise(bottom);
-    if (reads)
-        end_request(&read, PATIENT);
-    if (writes)
-        end_request(&write, PATIENT);
-    close_it(top);
-    WdmRemove(bottom);
-}
-
-/* What another driver asks for, without a file, and doesn't cancel. Returns how many requests. Where a driver looks at
-   files it may want one, and then Windows doesn't remove the device. */
-static int ask_without_file(Request *asked, PDEVICE_OBJECT top)
-{
-    int n = 0;
-    if (getenv("WDM_FILES"))
-        return 0;
-    n += start_request(&asked[n], top, transfer(IRP_MJ_READ, 16), WITHOUT_FILE);
-    n += start_request(&asked[n], top, transfer(IRP_MJ_WRITE, 16), WITHOUT_FILE);
-    for (int i = 0; i < n_controls && n < MAX_HELD; i++)
-        n += start_request(&asked[n], top, control(i, 16), WITHOUT_FILE);
-    return n;
-}
+/* What another driver asks for, without a file, and doesn't cancel: what each request asks for, and whether the drivers
+   held it when it was sent. */
+typedef struct { Request request[MAX_ASKED]; What what[MAX_ASKED]; BOOLEAN was_held[MAX_ASKED]; int n; } Asked;
 
 /* What was passed down comes back. What is left is held by the drivers. */
 static void let_bottom_finish(PDEVICE_OBJECT bottom)
@@ -164,18 +139,78 @@ static void let_bottom_finish(PDEVICE_OBJECT bottom)
         KeDelayExecutionThread(KernelMode, FALSE, &moment);
 }
 
+static BOOLEAN is_held(Request *r) { return KeReadStateEvent(&r->done) == 0; }
+
+static void ask(Asked *a, PDEVICE_OBJECT bottom, PDEVICE_OBJECT top, What what)
+{
+    Request *const r = &a->request[a->n];
+    if (a->n == MAX_ASKED || !start_request(r, top, what, WITHOUT_FILE))
+        return;
+    let_bottom_finish(bottom);
+    a->was_held[a->n] = is_held(r);
+    a->what[a->n++] = what;
+}
+
+/* A driver may end one request when another one comes: what it held is asked for again, so that it holds one at the end.
+   Where a driver looks at files it may want one, and then Windows doesn't remove the device. */
+static void ask_without_file(Asked *a, PDEVICE_OBJECT bottom, PDEVICE_OBJECT top)
+{
+    a->n = 0;
+    if (getenv("WDM_FILES"))
+        return;
+    ask(a, bottom, top, transfer(IRP_MJ_WRITE, 16));
+    for (int i = 0; i < n_controls && i < MAX_ASKED / 2 - 2; i++)
+        ask(a, bottom, top, control(i, 16));
+    ask(a, bottom, top, transfer(IRP_MJ_READ, 16));
+    const int n = a->n;
+    for (int i = 0; i < n; i++)
+        if (a->was_held[i] && !is_held(&a->request[i]))
+            ask(a, bottom, top, a->what[i]);
+}
+
+static void end_asked(Asked *a)
+{
+    for (int i = 0; i < a->n; i++)
+        end_request(&a->request[i], PATIENT);
+}
+
+static BOOLEAN is_any_held(Asked *a)
+{
+    for (int i = 0; i < a->n; i++)
+        if (is_held(&a->request[i]))
+            return TRUE;
+    return FALSE;
+}
+
+/* The device is gone while requests are under way; who has it open closes it, and only then it is removed. What drivers
+   elsewhere have asked for, without a file, is there until then: where a driver holds that, no write comes that may end it. */
+static void remove_by_surprise(PDEVICE_OBJECT bottom, PDEVICE_OBJECT top)
+{
+    Asked asked;
+    Request read, write;
+    ask_without_file(&asked, bottom, top);
+    const BOOLEAN writes = !is_any_held(&asked) && start_request(&write, top, transfer(IRP_MJ_WRITE, 16), KEPT);
+    const BOOLEAN reads = start_request(&read, top, transfer(IRP_MJ_READ, 16), PLAIN);
+    WdmSurprise(bottom);
+    if (reads)
+        end_request(&read, PATIENT);
+    if (writes)
+        end_request(&write, PATIENT);
+    close_it(top);
+    WdmRemove(bottom);
+    end_asked(&asked);
+}
+
 /* Nobody has the device open. What is held in it is ended by its removal. */
 static void remove_in_order(PDEVICE_OBJECT bottom, PDEVICE_OBJECT top)
 {
-    Request asked[MAX_HELD];
+    Asked asked;
     close_it(top);
-    const int n = ask_without_file(asked, top);
-    let_bottom_finish(bottom);
+    ask_without_file(&asked, bottom, top);
     set_power(top, IRP_MN_QUERY_POWER, PowerDeviceD3);
     set_power(top, IRP_MN_SET_POWER, PowerDeviceD3);
     WdmUnplug(bottom, FALSE);
-    for (int i = 0; i < n; i++)
-        end_request(&asked[i], PATIENT);
+    end_asked(&asked);
 }
 
 /* The system falls asleep and wakes while a read is under way: children sleep first, and wake last. */

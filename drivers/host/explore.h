@@ -74,6 +74,7 @@ void go_by_chance(uint64_t seed);
 bool goes_by_chance(void);
 
 /* story.c */
+void remember_fault(void);
 const char *schedule_text(const Schedule *s);
 bool read_schedule(const char *text, Schedule *s);
 

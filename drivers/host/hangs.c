@@ -131,11 +131,11 @@ void hang(Woken why, unsigned long began, WDM_SITE at)
             if (is_cancelled_and_held(packets[i]))
                 tell_cancelled_and_held(packets[i]);
         tell_in_flight(text, sizeof text);
-        fault("Hang", NULL, why == OVERDUE ? "waits for what no thread does, while others go on; %s" :
-              "waits for what no thread does; %s", text);
+        fault("Hang", NULL, why == OVERDUE ? "waits, and no thread ends the wait, while other threads go on; %s" :
+              "waits, and no thread will end the wait; %s", text);
     }
     const bool goes_on = complete_lost();
     if (!goes_on)
-        give_up(why == OVERDUE ? "a packet doesn't go on any more" : "nothing goes on any more");
+        give_up(why == OVERDUE ? "a packet doesn't go on any more" : "a deadlock: every thread waits");
     leave_host();
 }

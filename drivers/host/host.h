@@ -187,7 +187,7 @@ struct Packet {
     int sent_by;
     const void *touched_at;
     int toucher, toucher_calls; /* the device that ran; the driver whose function it had called, or NOBODY */
-    struct { WDM_SITE allocated, sent, completed, freed, cancel; } sites;
+    struct { WDM_SITE allocated, sent, completed, freed, cancel, none_taken; } sites;
     Callers completers;
     uint64_t name; /* by the thread that allocated it, and how many that had allocated before */
     UCHAR major;   /* what was sent to the first device */

@@ -148,13 +148,13 @@ static const char *name_of(int number)
 }
 
 /* Tells why and where the run ends, and ends it. */
-__attribute__((noreturn)) static void stop_here(const char *why, const void *const *at, int n)
+__attribute__((noreturn)) static void stop_here(const char *why, const void *const *at, int n, const char *hint)
 {
     char where[600];
     put_places(where, sizeof where, at, n);
     n_faults++;
-    say("STOPPED: %s%s%s%s%s", why, n ? ", at " : "", where, self.frames ? "; in " : "",
-        self.frames ? what_runs(self.frames) : "");
+    say("STOPPED: %s%s%s%s%s%s", why, n ? ", at " : "", where, self.frames ? "; in " : "",
+        self.frames ? what_runs(self.frames) : "", hint);
     take_lock_for_a_while();
     tell_thread(&self, "");
     stop_run(why);
@@ -193,7 +193,8 @@ static void stopped(int number, siginfo_t *info, void *context)
         n = where_is(true, at, MOST_PLACES);
     if (number == SIGTERM)
         ask_places();
-    stop_here(why, at, n);
+    const bool is_null = is_memory && !has_no_code && (uintptr_t)info->si_addr < PAGE_SIZE;
+    stop_here(why, at, n, is_null && self.frames && self.frames->p ? buffer_missing(self.frames->p) : "");
 }
 
 void crashed(int number, siginfo_t *info, void *context) { stopped(number, info, context); }
@@ -203,7 +204,7 @@ __attribute__((noreturn)) static void end_at(const char *why)
 {
     const void *at[MOST_PLACES];
     begin_last_words();
-    stop_here(why, at, where_is(false, at, MOST_PLACES));
+    stop_here(why, at, where_is(false, at, MOST_PLACES), "");
 }
 
 /* The end of the process that isn't the run's: the test's main has returned, or somebody called exit. */

@@ -144,8 +144,8 @@ VOID WdmIoBuildPartialMdl(PMDL Source, PMDL Target, PVOID Address, ULONG Length,
     leave_host();
 }
 
-/* A control of METHOD_IN_DIRECT or METHOD_OUT_DIRECT that is built has an MDL of its output buffer: given at its first
-   send, when its code is known. Under G. */
+/* A control of METHOD_IN_DIRECT or METHOD_OUT_DIRECT that is built has an MDL of its output buffer, and one of
+   METHOD_NEITHER no system buffer: given at its first send, when its code is known. Under G. */
 void give_mdl(Packet *p)
 {
     if (!p->direct || p->irp->MdlAddress || p->current < 2)
@@ -157,6 +157,7 @@ void give_mdl(Packet *p)
     if (next->MajorFunction == IRP_MJ_DEVICE_CONTROL && method == METHOD_NEITHER && p->bytes) {
         if (!next->Parameters.DeviceIoControl.Type3InputBuffer)
             next->Parameters.DeviceIoControl.Type3InputBuffer = p->bytes->bytes;
+        p->irp->AssociatedIrp.SystemBuffer = NULL;
         close_until_probed(p->bytes);
     }
     if (!is_control || (method != METHOD_IN_DIRECT && method != METHOD_OUT_DIRECT))
@@ -173,6 +174,25 @@ void give_mdl(Packet *p)
     p->direct->MappedSystemVa = out;
     p->irp->MdlAddress = p->direct;
     p->writes_back = false; /* what is written there is in the caller's buffer already */
+}
+
+/* Who touches address 0 in a read or write may have wanted a buffer that the stack's topmost device doesn't ask for: says
+   so of the packet. Empty where it has its system buffer, or is none of these. */
+const char *buffer_missing(const Packet *p)
+{
+    static char text[300];
+    const int top = p->size ? p->at[p->size].device : NOBODY;
+    *text = 0;
+    if (!p->bytes || p->irp->AssociatedIrp.SystemBuffer || top < 0 || (p->major != IRP_MJ_READ && p->major != IRP_MJ_WRITE))
+        return text;
+    const int n = snprintf(text, sizeof text, "; IRP %u.%lu (%s) has %s and no SystemBuffer, because %s doesn't set "
+                           "DO_BUFFERED_IO%s", p->slot, (unsigned long)p->use, major_name(p->major),
+                           p->irp->MdlAddress ? "an MdlAddress" : "no MdlAddress", who(top),
+                           p->irp->MdlAddress ? "" : " or DO_DIRECT_IO");
+    const int below = devices[top].lower;
+    if (below >= 0 && devices[below].raw->Flags & DO_BUFFERED_IO)
+        snprintf(text + n, sizeof text - (size_t)n, " (a filter copies it from the device below)");
+    return text;
 }
 
 /* At the end: under G. */

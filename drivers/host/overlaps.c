@@ -23,11 +23,24 @@ static NTSTATUS keep(PDEVICE_OBJECT device, PIRP irp, PVOID context)
     return STATUS_MORE_PROCESSING_REQUIRED;
 }
 
-static void start(Request *r, UCHAR major)
+static void build(Request *r, UCHAR major)
 {
     KeInitializeEvent(&r->done, NotificationEvent, FALSE);
     r->irp = WdmBuildIrp(top, major, 0, 16, NULL, NULL);
     IoSetCompletionRoutine(r->irp, keep, r, TRUE, TRUE, TRUE);
+}
+
+static void start(Request *r, UCHAR major)
+{
+    build(r, major);
+    IoCallDriver(top, r->irp);
+}
+
+/* A driver elsewhere sends it, without a file. */
+static void start_without_file(Request *r, UCHAR major)
+{
+    build(r, major);
+    IoGetNextIrpStackLocation(r->irp)->FileObject = r->irp->Tail.Overlay.OriginalFileObject = NULL;
     IoCallDriver(top, r->irp);
 }
 
@@ -92,9 +105,7 @@ static void overlap(void)
 static void cancel(void)
 {
     pthread_t t;
-    KeInitializeEvent(&pended.done, NotificationEvent, FALSE);
-    pended.irp = WdmBuildIrp(top, IRP_MJ_READ, 0, 16, NULL, NULL);
-    IoSetCompletionRoutine(pended.irp, keep, &pended, TRUE, TRUE, TRUE);
+    build(&pended, IRP_MJ_READ);
     pthread_create(&t, NULL, cancel_pended, NULL);
     IoCallDriver(top, pended.irp);
     pthread_join(t, NULL);
@@ -111,15 +122,23 @@ static void power(void)
     pthread_join(t, NULL);
 }
 
-/* The device goes while a read is held in it, which its sender cancels at some time. */
-static void remove_with_read(UCHAR before)
+/* The device goes while two reads are held in it: one that its sender cancels at some time, and one that the removal ends.
+   A driver that looks at files may want one: then the second isn't there, as on Windows, where who has a file closes it
+   before. */
+static void remove_with_reads(UCHAR before)
 {
     pthread_t t;
+    Request held;
+    const BOOLEAN holds = !getenv("WDM_FILES");
     start(&pended, IRP_MJ_READ);
+    if (holds)
+        start_without_file(&held, IRP_MJ_READ);
     pthread_create(&t, NULL, finish_pended, NULL);
     pnp(before);
     pnp(IRP_MN_REMOVE_DEVICE);
     pthread_join(t, NULL);
+    if (holds)
+        finish(&held);
 }
 
 static void play(const char *scenario)
@@ -143,9 +162,9 @@ static void play_on_stack(PDRIVER_OBJECT *loaded, const char *scenario)
         pnp(IRP_MN_START_DEVICE);
         play(scenario);
         if (!strcmp(scenario, "remove"))
-            remove_with_read(IRP_MN_QUERY_REMOVE_DEVICE);
+            remove_with_reads(IRP_MN_QUERY_REMOVE_DEVICE);
         else if (!strcmp(scenario, "surprise"))
-            remove_with_read(IRP_MN_SURPRISE_REMOVAL);
+            remove_with_reads(IRP_MN_SURPRISE_REMOVAL);
         else
             pnp(IRP_MN_REMOVE_DEVICE);
     }

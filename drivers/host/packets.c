@@ -141,7 +141,7 @@ static void begin_use(Packet *p, NTSTATUS status)
     prepare_nothing(p);
     p->kept_by = NULL;
     p->ran = NULL;
-    p->sites.sent = p->sites.completed = p->sites.cancel = (WDM_SITE){ 0 };
+    p->sites.sent = p->sites.completed = p->sites.cancel = p->sites.none_taken = (WDM_SITE){ 0 };
     p->use = next_use++;
 }
 

@@ -93,11 +93,11 @@ void refuse(Entry *e, const char *name)
     if (is_expected_refusal(name))
         note("a refusal that the test expects", "%s is refused: %s", op_names[e->op], name);
     else if (e->op <= REMOVE)
-        fault(rule, NULL, "refused for %s%s%s", who(e->device),
-              e->drained || e->op != REMOVE ? "" : " (lock not drained)",
+        fault(rule, NULL, "refused for %s%s", who(e->device),
               !strcmp(name, "NotDrained") ? held_tags(e->device) : !strcmp(name, "InFlight") ? packet_at(e->device) : "");
     else if (e->op >= SET_NEXT && e->op <= SET_CANCEL)
-        fault(rule, e->p, "by %s%s%s; refused: %s", who_of(e->p, e->by), holder, before, name);
+        fault(rule, e->p, "by %s%s%s%s; refused: %s", who_of(e->p, e->by), holder, before, second ? none_taken(e->p) : "",
+              name);
     else
         fault(rule, e->p, "by %s%s%s; refused: %s", who_calls(), holder, before, name);
     answered(e, REFUSED, 0);

@@ -73,6 +73,7 @@ NTSTATUS enter_device(Packet *p, int d, Entry *e)
     prepare_nothing(p);
     PDRIVER_DISPATCH fn = devices[d].raw->DriverObject->MajorFunction[l->major];
     if (!fn) {
+        check_dispatch_there(p, d, l->major);
         p->irp->IoStatus.Status = STATUS_INVALID_DEVICE_REQUEST;
         p->irp->IoStatus.Information = 0;
         finish(p, e, (ULONG)STATUS_INVALID_DEVICE_REQUEST, 0);

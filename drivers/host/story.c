@@ -6,17 +6,15 @@ typedef struct {
     bool preempts, early, waits, ends, is_decision;
     Place at, next;
 } Switch;
+enum { MOST_LINES = 40, AT_AN_END = MOST_LINES / 2 };
 static Switch switches[MAX_SWITCHES];
-static int n_switches, first_chosen = -1, at_fault; /* at_fault: how many came before the first fault */
-enum { MOST_SHOWN = 40 };
+static int n_switches, first_chosen = -1, at_fault = -1;
 extern char __executable_start;
 
 void remember_switch(const Choices *c, int to, const Place *next)
 {
     if (n_switches == MAX_SWITCHES)
         return;
-    if (n_faults && !at_fault)
-        at_fault = n_switches;
     const bool chosen = to != c->usual;
     if (chosen && first_chosen < 0)
         first_chosen = n_switches;
@@ -26,12 +24,23 @@ void remember_switch(const Choices *c, int to, const Place *next)
         .is_decision = chosen, .at = *c->place, .next = *next };
 }
 
+/* The first fault is told: the story goes to here. */
+void remember_fault(void) { at_fault = at_fault < 0 ? n_switches : at_fault; }
+
 static void put_place(FILE *out, const Place *p)
 {
+    const char *whose = p->at.file && is_hosts_file(p->at.file) ? "the host's " : "";
     if (p->pc)
         fprintf(out, "+0x%lx in %s (%s)", place_in_program((const char *)p->pc - 1), function_name(p->pc), p->what);
     else
-        fprintf(out, "%s%s%s", p->at.file ? place(p->at) : "", p->at.file ? ", " : "", p->what);
+        fprintf(out, "%s%s%s%s", whose, p->at.file ? place(p->at) : "", p->at.file ? ", " : "", p->what);
+}
+
+static void put_next(FILE *out, const Switch *s, const char *then)
+{
+    fprintf(out, "schedule: %-30s goes on from ", thread_name(s->to));
+    put_place(out, &s->next);
+    fprintf(out, "%s\n", then);
 }
 
 static void put_switch(FILE *out, const Switch *s)
@@ -42,30 +51,48 @@ static void put_switch(FILE *out, const Switch *s)
     fprintf(out, "%s\n", s->early ? "; time passes early" : "");
 }
 
-/* From the first switch that isn't usual to the last that isn't, or to the first fault, and who goes on then. */
+/* Whether the thread that goes on was stopped at a place that is told: its story had begun. */
+static bool was_stopped_before(int at)
+{
+    for (int i = first_chosen; i < at; i++)
+        if (switches[i].from == switches[at].to)
+            return true;
+    return false;
+}
+
+/* These switches, each with who goes on then. */
+static void put_switches(FILE *out, int from, int to, int end)
+{
+    for (int i = from; i < to; i++) {
+        put_switch(out, &switches[i]);
+        if (i + 1 == end)
+            put_next(out, &switches[i], at_fault == end ? ", to the fault" : "");
+        else if (was_stopped_before(i))
+            put_next(out, &switches[i], "");
+    }
+}
+
+/* From the first switch that isn't usual to the first fault, or else to the last switch that isn't usual. Of many the last,
+   and the first where but a few aren't usual. */
 void tell_story(FILE *out)
 {
-    int last = at_fault ? at_fault - 1 : n_switches - 1, early = 0;
+    int end = at_fault, early = 0, chosen = 0;
     for (int i = 0; i < n_switches; i++) {
-        last = switches[i].is_decision && i > last ? i : last;
+        end = at_fault < 0 && switches[i].is_decision ? i + 1 : end;
+        chosen += switches[i].is_decision;
         early += switches[i].preempts || switches[i].early;
     }
     fprintf(out, "schedule: %d switches, %d of them preemptions or early timers\n", n_switches, early);
-    if (first_chosen < 0)
+    if (first_chosen < 0 || end <= first_chosen)
         return;
     if (first_chosen)
         fprintf(out, "schedule: .. %d switches as usual\n", first_chosen);
-    const int skipped = last + 1 - first_chosen - MOST_SHOWN;
-    for (int i = first_chosen; i <= last; i++) {
-        if (skipped > 0 && i == first_chosen + MOST_SHOWN / 2) {
-            fprintf(out, "schedule: .. %d switches left out\n", skipped);
-            i += skipped;
-        }
-        put_switch(out, &switches[i]);
-    }
-    fprintf(out, "schedule: %-30s goes on from ", thread_name(switches[last].to));
-    put_place(out, &switches[last].next);
-    fputs("\n", out);
+    const int left = end - first_chosen > MOST_LINES ? end - first_chosen - MOST_LINES : 0;
+    const int before = !left ? end : chosen > AT_AN_END ? first_chosen : first_chosen + AT_AN_END;
+    put_switches(out, first_chosen, before, end);
+    if (left)
+        fprintf(out, "schedule: .. %d switches left out\n", end - AT_AN_END - before);
+    put_switches(out, left ? end - AT_AN_END : end, end, end);
 }
 
 /* `p3830.3be6,8=1`: the racy places that are points, then at which decision which thread goes on. */

@@ -114,9 +114,11 @@ VOID WdmUnloadDriver(PDRIVER_OBJECT Driver)
     leave_host();
 }
 
-/* Buffers as the I/O manager gives them: the packet frees them. */
-static void give_buffer(PIRP irp, PDEVICE_OBJECT top, ULONG length, WDM_SITE at)
+/* Buffers as the I/O manager gives them, and the packet frees them: of a read or write the one that the flags of the
+   stack's topmost device ask for. A control's are given at its first send, when its code is known (mdl.c). */
+static void give_buffer(PIRP irp, PDEVICE_OBJECT top, UCHAR major, ULONG length, WDM_SITE at)
 {
+    const bool is_transfer = major == IRP_MJ_READ || major == IRP_MJ_WRITE;
     if (!length)
         return;
     Call c;
@@ -130,8 +132,11 @@ static void give_buffer(PIRP irp, PDEVICE_OBJECT top, ULONG length, WDM_SITE at)
     MmInitializeMdl(mdl, p->bytes->bytes, length);
     mdl->MdlFlags |= MDL_SOURCE_IS_NONPAGED_POOL | MDL_MAPPED_TO_SYSTEM_VA;
     mdl->MappedSystemVa = p->bytes->bytes;
-    irp->AssociatedIrp.SystemBuffer = irp->UserBuffer = p->bytes->bytes;
-    irp->MdlAddress = top->Flags & DO_DIRECT_IO ? mdl : NULL;
+    irp->UserBuffer = p->bytes->bytes;
+    if (!is_transfer || top->Flags & DO_BUFFERED_IO)
+        irp->AssociatedIrp.SystemBuffer = p->bytes->bytes;
+    else if (top->Flags & DO_DIRECT_IO)
+        irp->MdlAddress = mdl;
     p->direct = mdl + 1;
     leave_host();
 }
@@ -157,7 +162,7 @@ PIRP WdmBuild(PDEVICE_OBJECT Top, UCHAR Major, UCHAR Minor, ULONG Length, PIO_ST
     if (Major == IRP_MJ_PNP || Major == IRP_MJ_POWER || Major == IRP_MJ_SYSTEM_CONTROL)
         WdmIoReuseIrp(irp, STATUS_NOT_SUPPORTED, at);
     else
-        give_buffer(irp, Top, Length, at);
+        give_buffer(irp, Top, Major, Length, at);
     PIO_STACK_LOCATION next = WdmIoGetNextIrpStackLocation(irp, at);
     next->MajorFunction = Major;
     next->MinorFunction = Minor;

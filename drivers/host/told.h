@@ -29,6 +29,10 @@ size_t print_wide(char *to, size_t room, const WCHAR *format, va_list list);
 bool copy_text(PUNICODE_STRING to, PCUNICODE_STRING from);
 size_t to_wide(WCHAR *to, size_t room, const char *from, size_t count);
 
+/* mdl.c, cancelling.c */
+const char *buffer_missing(const Packet *p);
+const char *none_taken(const Packet *p);
+
 /* leftovers.c, with its parts in work.c, work_items.c, threads.c and properties.c */
 void left_behind(const char *what, const char *call, WDM_SITE at);
 void tell_left(int driver);

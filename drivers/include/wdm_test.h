@@ -67,7 +67,8 @@ ULONG WdmGetChildren(PDEVICE_OBJECT Pdo, PDEVICE_OBJECT *Children, ULONG Most);
 
 /*
  * A packet as the I/O manager makes it for a caller: its status goes to Iosb, Event is set at its end, then the host
- * frees it. Buffers of Length bytes are there by each method. PNP, POWER and SYSTEM_CONTROL start with
+ * frees it. A read or write has a buffer of Length bytes as Top's flags ask for it: SystemBuffer by DO_BUFFERED_IO,
+ * MdlAddress by DO_DIRECT_IO, else UserBuffer; a control as its code says. PNP, POWER and SYSTEM_CONTROL start with
  * STATUS_NOT_SUPPORTED. Fill further parameters in by IoGetNextIrpStackLocation, and send it by IoCallDriver.
  */
 PIRP WdmBuild(PDEVICE_OBJECT Top, UCHAR Major, UCHAR Minor, ULONG Length, PIO_STATUS_BLOCK Iosb, PKEVENT Event,

@@ -5,6 +5,7 @@
 static const CASE_ROW *const tables[] = { LockCases, LevelCases, PoolCases, PacketCases, ObjectCases, PowerCases };
 
 VOID UsesAfterwards(PEXTENSION Ext);
+CASE HasNone;
 
 /* Returns the name of the n-th case, or NULL. */
 const char *RulesName(ULONG n);
@@ -22,6 +23,8 @@ VOID RulesSetPnp(PEXTENSION Ext, ULONG n)
 {
     Ext->Pnp = Find(n)->Pnp;
     Ext->Power = Find(n)->Power;
+    if (Ext->Wrong && Ext->Power == HasNone)
+        Ext->Self->DriverObject->MajorFunction[IRP_MJ_POWER] = NULL;
 }
 
 const char *RulesName(ULONG n)
@@ -93,8 +96,9 @@ static VOID Unload(PDRIVER_OBJECT DriverObject) { UNREFERENCED_PARAMETER(DriverO
 
 static NTSTATUS AddDevice(PDRIVER_OBJECT DriverObject, PDEVICE_OBJECT Pdo)
 {
+    const ULONG size = sizeof(EXTENSION), type = FILE_DEVICE_UNKNOWN;
     PDEVICE_OBJECT device;
-    NTSTATUS status = IoCreateDevice(DriverObject, sizeof(EXTENSION), NULL, FILE_DEVICE_UNKNOWN, 0, FALSE, &device);
+    NTSTATUS status = IoCreateDevice(DriverObject, size, NULL, type, 0, FALSE, &device); /* told: NotPassedDown_None */
     if (!NT_SUCCESS(status))
         return status;
     PEXTENSION ext = device->DeviceExtension;

@@ -69,9 +69,18 @@ static NTSTATUS EndsPower(PEXTENSION Ext, PIRP Irp, BOOLEAN Wrong)
     return STATUS_SUCCESS;
 }
 
+/* Where it is broken the driver has no dispatch for it (driver.c). */
+NTSTATUS HasNone(PEXTENSION Ext, PIRP Irp, BOOLEAN Wrong)
+{
+    UNREFERENCED_PARAMETER(Wrong);
+    PoStartNextPowerIrp(Irp);
+    return PassDown(Ext, Irp);
+}
+
 const CASE_ROW PowerCases[] = {
     { "NextPowerIrp", NULL, NULL, PassesPower }, { "NextPowerIrp_Routine", NULL, NULL, PassesPowerWithRoutine },
     { "PnpStatusChanged_Unhandled", NULL, SaysInvalid, NULL }, { "NotPassedDown_Unhandled", NULL, KeepsQuestion, NULL },
-    { "NotPassedDown_Power", NULL, NULL, EndsPower }, { "PnpStatusChanged_Passed", NULL, PassesFailure, NULL },
+    { "NotPassedDown_Power", NULL, NULL, EndsPower }, { "NotPassedDown_None", NULL, NULL, HasNone },
+    { "PnpStatusChanged_Passed", NULL, PassesFailure, NULL },
     { NULL, NULL, NULL, NULL },
 };

@@ -9,7 +9,7 @@ typedef struct {
 
 DRIVER_INITIALIZE DriverEntry;
 static DRIVER_ADD_DEVICE ToasterAddDevice;
-static DRIVER_DISPATCH ToasterPnp, ToasterPower, ToasterReadWrite, ToasterControl;
+static DRIVER_DISPATCH ToasterPnp, ToasterPower, ToasterSystemControl, ToasterReadWrite, ToasterControl;
 static IO_COMPLETION_ROUTINE ToasterStarted, ToasterDone, ToasterControlDone;
 
 NTSTATUS DriverEntry(PDRIVER_OBJECT DriverObject, PUNICODE_STRING RegistryPath)
@@ -18,6 +18,7 @@ NTSTATUS DriverEntry(PDRIVER_OBJECT DriverObject, PUNICODE_STRING RegistryPath)
     DriverObject->DriverExtension->AddDevice = ToasterAddDevice;
     DriverObject->MajorFunction[IRP_MJ_PNP] = ToasterPnp;
     DriverObject->MajorFunction[IRP_MJ_POWER] = ToasterPower;
+    DriverObject->MajorFunction[IRP_MJ_SYSTEM_CONTROL] = ToasterSystemControl;
     DriverObject->MajorFunction[IRP_MJ_READ] = ToasterReadWrite;
     DriverObject->MajorFunction[IRP_MJ_WRITE] = ToasterReadWrite;
     DriverObject->MajorFunction[IRP_MJ_DEVICE_CONTROL] = ToasterControl;
@@ -110,6 +111,12 @@ static NTSTATUS ToasterPower(PDEVICE_OBJECT DeviceObject, PIRP Irp)
     status = PoCallDriver(ext->Lower, Irp);
     IoReleaseRemoveLock(&ext->RemoveLock, Irp);
     return status;
+}
+
+static NTSTATUS ToasterSystemControl(PDEVICE_OBJECT DeviceObject, PIRP Irp)
+{
+    IoSkipCurrentIrpStackLocation(Irp);
+    return IoCallDriver(((PFDO_EXTENSION)DeviceObject->DeviceExtension)->Lower, Irp);
 }
 
 /* Reads and writes go down; the routine gives the remove lock back. */

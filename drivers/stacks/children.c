@@ -41,6 +41,16 @@ static NTSTATUS Pnp(PDEVICE_OBJECT DeviceObject, PIRP Irp)
     return status;
 }
 
+/* Power and WMI. */
+static NTSTATUS Other(PDEVICE_OBJECT DeviceObject, PIRP Irp)
+{
+    PEXTENSION ext = DeviceObject->DeviceExtension;
+    if (!ext->IsChild)
+        return PassDown(ext->Lower, Irp);
+    const BOOLEAN is_power = IoGetCurrentIrpStackLocation(Irp)->MajorFunction == IRP_MJ_POWER;
+    return Complete(Irp, is_power ? STATUS_SUCCESS : Irp->IoStatus.Status, Irp->IoStatus.Information);
+}
+
 static PDEVICE_OBJECT AddChild(PDRIVER_OBJECT DriverObject, PDEVICE_OBJECT Parent)
 {
     PDEVICE_OBJECT child;
@@ -70,6 +80,7 @@ NTSTATUS DriverEntry(PDRIVER_OBJECT DriverObject, PUNICODE_STRING RegistryPath)
     UNREFERENCED_PARAMETER(RegistryPath);
     DriverObject->MajorFunction[IRP_MJ_READ] = Read;
     DriverObject->MajorFunction[IRP_MJ_PNP] = Pnp;
+    DriverObject->MajorFunction[IRP_MJ_POWER] = DriverObject->MajorFunction[IRP_MJ_SYSTEM_CONTROL] = Other;
     DriverObject->DriverExtension->AddDevice = AddDevice;
     return STATUS_SUCCESS;
 }

@@ -164,6 +164,16 @@ static NTSTATUS Read(PDEVICE_OBJECT DeviceObject, PIRP Irp)
     return Complete(Irp, STATUS_SUCCESS, min(child->Number, IoGetCurrentIrpStackLocation(Irp)->Parameters.Read.Length));
 }
 
+/* Power and WMI. */
+static NTSTATUS Other(PDEVICE_OBJECT DeviceObject, PIRP Irp)
+{
+    const PBUS bus = DeviceObject->DeviceExtension;
+    if (!bus->IsChild)
+        return PassDown(bus->Lower, Irp);
+    const BOOLEAN is_power = IoGetCurrentIrpStackLocation(Irp)->MajorFunction == IRP_MJ_POWER;
+    return Complete(Irp, is_power ? STATUS_SUCCESS : Irp->IoStatus.Status, Irp->IoStatus.Information);
+}
+
 static NTSTATUS AddDevice(PDRIVER_OBJECT DriverObject, PDEVICE_OBJECT Pdo)
 {
     PDEVICE_OBJECT device;
@@ -186,6 +196,7 @@ NTSTATUS DriverEntry(PDRIVER_OBJECT DriverObject, PUNICODE_STRING RegistryPath)
     UNREFERENCED_PARAMETER(RegistryPath);
     DriverObject->MajorFunction[IRP_MJ_READ] = Read;
     DriverObject->MajorFunction[IRP_MJ_PNP] = Pnp;
+    DriverObject->MajorFunction[IRP_MJ_POWER] = DriverObject->MajorFunction[IRP_MJ_SYSTEM_CONTROL] = Other;
     DriverObject->DriverExtension->AddDevice = AddDevice;
     return STATUS_SUCCESS;
 }

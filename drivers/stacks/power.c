@@ -130,6 +130,12 @@ static NTSTATUS Pnp(PDEVICE_OBJECT DeviceObject, PIRP Irp)
     return status;
 }
 
+/* WMI. */
+static NTSTATUS SystemControl(PDEVICE_OBJECT DeviceObject, PIRP Irp)
+{
+    return PassDown(((PEXTENSION)DeviceObject->DeviceExtension)->Lower, Irp);
+}
+
 static NTSTATUS AddDevice(PDRIVER_OBJECT DriverObject, PDEVICE_OBJECT Pdo)
 {
     PDEVICE_OBJECT device;
@@ -155,6 +161,7 @@ NTSTATUS DriverEntry(PDRIVER_OBJECT DriverObject, PUNICODE_STRING RegistryPath)
     DriverObject->MajorFunction[IRP_MJ_READ] = Read;
     DriverObject->MajorFunction[IRP_MJ_POWER] = Power;
     DriverObject->MajorFunction[IRP_MJ_PNP] = Pnp;
+    DriverObject->MajorFunction[IRP_MJ_SYSTEM_CONTROL] = SystemControl;
     DriverObject->DriverExtension->AddDevice = AddDevice;
     return STATUS_SUCCESS;
 }

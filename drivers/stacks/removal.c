@@ -129,6 +129,12 @@ static NTSTATUS Write(PDEVICE_OBJECT DeviceObject, PIRP Irp)
     return STATUS_SUCCESS;
 }
 
+/* Power and WMI. */
+static NTSTATUS Other(PDEVICE_OBJECT DeviceObject, PIRP Irp)
+{
+    return PassDown(((PEXTENSION)DeviceObject->DeviceExtension)->Lower, Irp);
+}
+
 static NTSTATUS AddDevice(PDRIVER_OBJECT DriverObject, PDEVICE_OBJECT Pdo)
 {
     PDEVICE_OBJECT device;
@@ -158,6 +164,7 @@ NTSTATUS DriverEntry(PDRIVER_OBJECT DriverObject, PUNICODE_STRING RegistryPath)
     DriverObject->MajorFunction[IRP_MJ_READ] = Read;
     DriverObject->MajorFunction[IRP_MJ_WRITE] = Write;
     DriverObject->MajorFunction[IRP_MJ_PNP] = Pnp;
+    DriverObject->MajorFunction[IRP_MJ_POWER] = DriverObject->MajorFunction[IRP_MJ_SYSTEM_CONTROL] = Other;
     DriverObject->DriverExtension->AddDevice = AddDevice;
     return STATUS_SUCCESS;
 }

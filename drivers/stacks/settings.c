@@ -96,6 +96,12 @@ static NTSTATUS Pnp(PDEVICE_OBJECT DeviceObject, PIRP Irp)
     return PassDown(ext->Lower, Irp);
 }
 
+/* Power and WMI. */
+static NTSTATUS Other(PDEVICE_OBJECT DeviceObject, PIRP Irp)
+{
+    return PassDown(((PEXTENSION)DeviceObject->DeviceExtension)->Lower, Irp);
+}
+
 static NTSTATUS AddDevice(PDRIVER_OBJECT DriverObject, PDEVICE_OBJECT Pdo)
 {
     PDEVICE_OBJECT device;
@@ -129,6 +135,7 @@ NTSTATUS DriverEntry(PDRIVER_OBJECT DriverObject, PUNICODE_STRING RegistryPath)
     UNREFERENCED_PARAMETER(RegistryPath);
     DriverObject->MajorFunction[IRP_MJ_READ] = Read;
     DriverObject->MajorFunction[IRP_MJ_PNP] = Pnp;
+    DriverObject->MajorFunction[IRP_MJ_POWER] = DriverObject->MajorFunction[IRP_MJ_SYSTEM_CONTROL] = Other;
     DriverObject->DriverExtension->AddDevice = AddDevice;
     DriverObject->DriverUnload = Unload;
     return STATUS_SUCCESS;

@@ -71,6 +71,7 @@ NTSTATUS DriverEntry(PDRIVER_OBJECT DriverObject, PUNICODE_STRING RegistryPath)
     if (!NT_SUCCESS(status))
         return status;
     PEXTENSION ext = device->DeviceExtension;
+    device->Flags |= DO_BUFFERED_IO;
     ExInitializeResourceLite(&ext->Resource);
     ExInitializeRundownProtection(&ext->Rundown);
     ExInitializeFastMutex(&ext->Mutex);

@@ -27,20 +27,39 @@ static void read_cancelled_before(PDEVICE_OBJECT collection)
     Wait(read, 200);
 }
 
-/* The bus is asked to wait until all that it expects has come, and something hasn't. */
-static void wait_for_expected(void)
+/* A device is asked to wait until all that it expects has come, and something hasn't: the bus, or its child. */
+static Request *prepare_wait(PDEVICE_OBJECT device)
 {
     static struct { struct hid_device_desc device; struct hid_expect expect[1]; } message;
     static struct { struct hid_device_desc device; struct wait_expect_params wait; } params;
     message.device = params.device = description;
     message.expect[0].code = IOCTL_HID_SET_FEATURE;
     Control(bus, IOCTL_WINETEST_HID_SET_EXPECT, &message, sizeof message, 0);
-    Control(bus, IOCTL_WINETEST_HID_WAIT_EXPECT, &params, sizeof params, 0);
+    return Prepare(device, IRP_MJ_DEVICE_CONTROL, IOCTL_WINETEST_HID_WAIT_EXPECT, &params, sizeof params, 0);
+}
+
+static void wait_for_expected(void)
+{
+    Request *wait = prepare_wait(bus);
+    IoCallDriver(bus, wait->irp);
+    Wait(wait, 500);
+}
+
+static void wait_cancelled_before(PDEVICE_OBJECT child)
+{
+    Request *wait = prepare_wait(child);
+    IoCancelIrp(wait->irp);
+    IoCallDriver(child, wait->irp);
+    Wait(wait, 200);
 }
 
 int main(int argc, char **argv)
 {
     PDEVICE_OBJECT device = MakeDevice(report, sizeof report, 3);
+    if (device && Does(argc, argv, "early")) {
+        wait_cancelled_before(device);
+        return WdmFinish();
+    }
     PDRIVER_OBJECT driver = WdmLoadByName(Does(argc, argv, "poll") ? "driver_hid_poll" : "driver_hid");
     PDEVICE_OBJECT hid = Add(driver, device), collection = hid ? Child(hid, 0) : NULL;
     if (!collection || Pnp(collection, IRP_MN_START_DEVICE))

@@ -82,6 +82,8 @@ int main(int argc, char **argv)
         in.echo.bits = 64;
         in.echo.req_size = 8;
         Request *r = Prepare(top, IRP_MJ_DEVICE_CONTROL, IOCTL_NSIPROXY_WINE_ICMP_ECHO, &in, sizeof in, 128);
+        if (Does(argc, argv, "early"))
+            IoCancelIrp(r->irp);
         IoCallDriver(top, r->irp);
         KeSetEvent(&answer, 0, FALSE);
         Wait(r, 500);

@@ -106,7 +106,9 @@ static NTSTATUS Pnp(PDEVICE_OBJECT DeviceObject, PIRP Irp)
     if (!NT_SUCCESS(status))
         return Complete(Irp, status, 0);
     if (minor == IRP_MN_SURPRISE_REMOVAL || minor == IRP_MN_REMOVE_DEVICE) {
+#ifndef UNDRAINED /* else another fault: the reads that are held when the device goes stay there */
         EndReads(ext, STATUS_NO_SUCH_DEVICE, TRUE);
+#endif
         Irp->IoStatus.Status = STATUS_SUCCESS;
     }
     if (minor != IRP_MN_REMOVE_DEVICE) {
@@ -114,7 +116,7 @@ static NTSTATUS Pnp(PDEVICE_OBJECT DeviceObject, PIRP Irp)
         IoReleaseRemoveLock(&ext->RemoveLock, Irp);
         return status;
     }
-    IoReleaseRemoveLockAndWait(&ext->RemoveLock, Irp);
+    IoReleaseRemoveLockAndWait(&ext->RemoveLock, Irp); /* told: NotDrained */
     status = PassDown(DeviceObject, Irp);
     IoDetachDevice(ext->Lower);
     IoDeleteDevice(DeviceObject);
