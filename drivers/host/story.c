@@ -72,13 +72,13 @@ static void put_switches(FILE *out, int from, int to, int end)
     }
 }
 
-/* From the first switch that isn't usual to the first fault, or else to the last switch that isn't usual. Of many the last,
-   and the first where but a few aren't usual. */
+/* From the first switch that isn't usual to the first fault, or else to the end. Of many the last, and the first where but a
+   few aren't usual. */
 void tell_story(FILE *out)
 {
-    int end = at_fault, early = 0, chosen = 0;
+    const int end = at_fault < 0 ? n_switches : at_fault;
+    int early = 0, chosen = 0;
     for (int i = 0; i < n_switches; i++) {
-        end = at_fault < 0 && switches[i].is_decision ? i + 1 : end;
         chosen += switches[i].is_decision;
         early += switches[i].preempts || switches[i].early;
     }

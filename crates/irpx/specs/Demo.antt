@@ -18,9 +18,8 @@ use Rattle.irp_types.specs.declared.names.DeviceId.{DeviceId}
 use Rattle.irp_transcript.specs.Headers.{fixed_of, IsHeader}
 use Rattle.irp_transcript.specs.Transcripts.{TranscriptValue}
 use Rattle.irp_transcript.specs.declared.header.Header.{Header}
-use Rattle.irp_transcript_writer.specs.Lines.{lines, text_of}
 use Rattle.irpx.specs.Streams.{IsQuiet, Output}
-use Rattle.irpx.specs.Writing.{BreaksOff, Written}
+use Rattle.irpx.specs.Writing.{Prints, StopsShort}
 use Rattle.irpx.specs.declared.not_done.NotDone.{NotDone}
 use Rattle.irpx.specs.declared.not_done.NotDone.TheVariants.{NoMemory}
 use Rattle.irpx.specs.declared.not_done.Phase.TheVariants.{Running}
@@ -51,8 +50,8 @@ pub record IsDemoTranscript (transcript : TranscriptValue) : Type 0 where
 abbrev pub AfterDemo : {T : Type 0} → Output → Output → Result T NotDone → Type 0
 AfterDemo before after (Ok done) =
     (transcript : TranscriptValue) × IsDemoTranscript transcript
-    × Written (text_of (lines transcript)) before after
+    × Prints transcript before after
 AfterDemo before after (Err fault) =
     ((fault ≡ NoMemory Running) × IsQuiet before after)
     ⊎ ((transcript : TranscriptValue) × IsDemoTranscript transcript
-    × BreaksOff (text_of (lines transcript)) before after fault)
+    × StopsShort transcript before after fault)

@@ -3,6 +3,7 @@ use Rattle.std.specs.Prelude.{ℕ, List, ◌++◌, codes, Option, Some, None, Re
 use Rattle.std.specs.Fmt.{decimal}
 use Rattle.irp_judge.specs.declared.verdict.Verdict.{Verdict}
 use Rattle.irp_judge.specs.declared.verdict.Verdict.TheVariants as verdict
+use Rattle.irp_fitting.specs.Fitting.{name_of}
 use Rattle.irpx.specs.declared.ending.Ending.{Ending}
 use Rattle.irpx.specs.declared.ending.Ending.TheVariants.{Done, Illegal, Faulty}
 use Rattle.irpx.specs.declared.not_done.NotDone.{NotDone}
@@ -26,8 +27,8 @@ of_verdict (verdict.Illegal at) = Illegal
 
 -- ---- what an ending is seen by
 
--- the exit status of a fault: of a text that is refused, of receipts that differ, of memory that ran out, of other
--- words, and of a stream that failed
+-- the exit status of a fault: of a text that is refused, of receipts that differ, of memory that ran out or a
+-- transcript that doesn't fit, of other words, and of a stream that failed
 abbrev pub fault_status : NotDone → ℕ
 fault_status (fault.RefusedScript refusal) = 1
 fault_status (fault.HandsBetween step) = 1
@@ -35,6 +36,7 @@ fault_status (fault.RefusedLine line) = 1
 fault_status fault.ReceiptsDiffer = 2
 fault_status (fault.NoMemory phase) = 3
 fault_status (fault.Stopped stop) = 3
+fault_status (fault.Unfit unfit) = 3
 fault_status fault.Usage = 4
 fault_status fault.Input = 5
 fault_status fault.Output = 5
@@ -54,6 +56,7 @@ complaint_of (fault.RefusedLine line) = Some (codes "irpx: transcript refused: l
 complaint_of fault.ReceiptsDiffer = Some (codes "irpx: receipts differ")
 complaint_of (fault.NoMemory phase) = Some (codes "irpx: out of memory")
 complaint_of (fault.Stopped stop) = Some (codes "irpx: out of memory")
+complaint_of (fault.Unfit unfit) = Some (codes "irpx: can't be read again: " ++ name_of unfit)
 complaint_of fault.Usage = Some (codes "irpx: usage: irpx demo, run [--workers N] or check")
 complaint_of fault.Input = Some (codes "irpx: input or output failed")
 complaint_of fault.Output = Some (codes "irpx: input or output failed")

@@ -50,11 +50,10 @@ use Rattle.irp_script.specs.Numbers.{EachAsOften, NoneMoreOften}
 use Rattle.irp_script.specs.Outcomes.{Outcome, Ways, outcomes}
 use Rattle.irp_script.specs.Told.{IsTold}
 use Rattle.irp_script.specs.Words.{AreInOrder, told_by, word_steps}
-use Rattle.irp_transcript_writer.specs.Lines.{lines, text_of}
 use Rattle.irp_script.specs.Ran.{Ran}
 use Rattle.irp_script.specs.declared.stop.Stop.{Stop}
 use Rattle.irpx.specs.Streams.{Bytes, IsQuiet, IsReadingFault, Output, Streams}
-use Rattle.irpx.specs.Writing.{BreaksOff, Written}
+use Rattle.irpx.specs.Writing.{Prints, StopsShort}
 use Rattle.irpx.specs.declared.not_done.NotDone.{NotDone}
 use Rattle.irpx.specs.declared.not_done.NotDone.TheVariants.{
   HandsBetween,
@@ -154,10 +153,6 @@ run_transcript form words transcript = record transcript {
   words = words;
 }
 
--- the text of a transcript
-abbrev pub text_with : TranscriptValue → List ℕ
-text_with transcript = text_of (lines transcript)
-
 -- why there is no transcript of a script that was run: memory ran out, or the seats kept other entries
 abbrev pub IsRunningFault : NotDone → Type 0
 IsRunningFault (NoMemory Running) = Unit {0}
@@ -198,13 +193,13 @@ pub record IsRanBy (workers : ℕ) (script : Script) (tables : Tables) (transcri
 abbrev pub AfterScript : {T : Type 0} → ℕ → Script → Tables → Output → Output → Result T NotDone → Type 0
 AfterScript workers script tables before after (Ok done) =
     (transcript : TranscriptValue) × IsRanBy workers script tables transcript None
-    × Written (text_with transcript) before after
+    × Prints transcript before after
 AfterScript workers script tables before after (Err fault) =
     (IsRunningFault fault × IsQuiet before after)
     ⊎ ((stop : Stop) × (transcript : TranscriptValue) × (fault ≡ Stopped stop)
-    × IsRanBy workers script tables transcript (Some stop) × Written (text_with transcript) before after)
+    × IsRanBy workers script tables transcript (Some stop) × Prints transcript before after)
     ⊎ ((stop : Option Stop) × (transcript : TranscriptValue) × IsRanBy workers script tables transcript stop
-    × BreaksOff (text_with transcript) before after fault)
+    × StopsShort transcript before after fault)
 
 -- the first step that hands a reference between seats that fall to different of so many workers is this one, or there
 -- is none; and the input holds the script

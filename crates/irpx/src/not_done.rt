@@ -3,6 +3,7 @@
 ghost use Rattle.std.specs.Prelude.{◌≡◌};
 ghost use Rattle.irpx.specs.Ending.{fault_status};
 
+use irp_fitting::Unfit;
 use irp_script::Stop;
 use irp_script_reader::{MemberFault, ScriptRefusal, Section};
 use std::fmt;
@@ -41,6 +42,8 @@ pub enum NotDone {
     ReceiptsDiffer,
     /// A worker stopped, here and for this reason. The transcript of what was recorded is written.
     Stopped { stop: Stop },
+    /// This is the first part of the transcript that doesn't fit: it would not be read again as the same.
+    Unfit { unfit: Unfit },
 }
 
 impl NotDone {
@@ -53,7 +56,7 @@ impl NotDone {
             | NotDone::HandsBetween { .. }
             | NotDone::RefusedLine { .. } => 1,
             NotDone::ReceiptsDiffer => 2,
-            NotDone::NoMemory(_) | NotDone::Stopped { .. } => 3,
+            NotDone::NoMemory(_) | NotDone::Stopped { .. } | NotDone::Unfit { .. } => 3,
             NotDone::Usage => 4,
             NotDone::Input | NotDone::Output => 5,
         }
@@ -80,6 +83,7 @@ impl fmt::Display for NotDone {
             NotDone::RefusedLine { line } => write!(f, "irpx: transcript refused: line {line}"),
             NotDone::ReceiptsDiffer => f.write_str("irpx: receipts differ"),
             NotDone::NoMemory(_) | NotDone::Stopped { .. } => f.write_str("irpx: out of memory"),
+            NotDone::Unfit { unfit } => write!(f, "irpx: can't be read again: {unfit}"),
             NotDone::Usage => f.write_str("irpx: usage: irpx demo, run [--workers N] or check"),
             NotDone::Input | NotDone::Output => f.write_str("irpx: input or output failed"),
         }

@@ -2,16 +2,15 @@
 use Rattle.std.proofs.Common.{Ok, Err, OnOk, Result, inl, inr, refl}
 use Rattle.std.specs.Prelude.{IfErr}
 use Rattle.irp_transcript.specs.Transcripts.{TranscriptValue}
-use Rattle.irp_transcript_writer.specs.Lines.{lines, text_of}
 use Rattle.irpx.specs.Demo.{AfterDemo, IsDemoTranscript}
 use Rattle.irpx.specs.Streams.{Output}
-use Rattle.irpx.specs.Writing.{BreaksOff, Written}
+use Rattle.irpx.specs.Writing.{Prints, StopsShort}
 use Rattle.irpx.specs.declared.not_done.NotDone.{NotDone}
 use Rattle.irpx.proofs.Pieces.{keeps_itself}
 use Rattle.irpx.proofs.demo.demo.Goals as goal
 
 written_demo : {T : Type 0} (result : Result T NotDone) (transcript : TranscriptValue) (before after : Output) → IsDemoTranscript transcript
-    → OnOk result (Written (text_of (lines transcript)) before after) → IfErr result (BreaksOff (text_of (lines transcript)) before after)
+    → OnOk result (Prints transcript before after) → IfErr result (StopsShort transcript before after)
     → AfterDemo before after result
 written_demo (Ok done) transcript before after is written broke = (transcript, is, written)
 written_demo (Err fault) transcript before after is written broke = inr (transcript, is, broke)
