@@ -280,7 +280,8 @@ NTSTATUS DriverEntry(PDRIVER_OBJECT DriverObject, PUNICODE_STRING RegistryPath)
 static void *work(void *context)
 {
     const struct sched_param none = { 0 };
-    sched_setscheduler(0, SCHED_IDLE, &none);
+    if (!for_ever)
+        sched_setscheduler(0, SCHED_IDLE, &none);
     WorkAndComplete();
     return context;
 }
@@ -293,8 +294,9 @@ int main(int argc, char **argv)
     pthread_t t;
     CPU_ZERO(&one);
     CPU_SET(0, &one);
-    sched_setaffinity(0, sizeof one, &one);
     for_ever = argc > 1 && argv[1];
+    if (!for_ever)
+        sched_setaffinity(0, sizeof one, &one);
     KeInitializeEvent(&done, NotificationEvent, FALSE);
     IoCallDriver(top, WdmBuildIrp(top, IRP_MJ_READ, 0, 4, &iosb, &done));
     pthread_create(&t, NULL, work, NULL);
