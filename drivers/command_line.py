@@ -57,7 +57,7 @@ def add_stack(parser):
                        help="a driver for each child of a bus whose device id has CHILD in it")
     group.add_argument("--library", action="append", default=[], metavar="FILE.c|FOLDER",
                        help="a driver that exports its globals to the others")
-    group.add_argument("--wine", metavar="FOLDER", help="Wine's source: for drivers that use its headers")
+    group.add_argument("--wine", metavar="FOLDER", help="Wine's source: for drivers that use its headers, and get a system buffer whatever their flags say")
     group.add_argument("--cflag", action="append", default=[], metavar="FLAG", help="a flag for the compiler")
     group.add_argument("--cc", default=os.environ.get("CC", "cc"), help="the compiler (cc)")
 

@@ -281,6 +281,11 @@ def test_untested(run, bench):
     report = made.report()
     well = report.facts["ended"] == "failed" and report.facts["cost"] == "2" and "CompletedTwice" in report.facts["why"]
     yield "the host's own test under every order finds a fault", None if well else str(report.facts)
+    said = made.followed(report.facts["schedule"], "told").said if well else ""
+    wanted = "; IoSetCancelRoutine at pends.c:43 returned NULL: CancelRead had begun", ", to the fault\n"
+    missing = [it for it in wanted if it not in said]
+    yield "its schedule goes to the fault, which names the cancel routine that had begun", f"no {missing}: {said}" if missing \
+        else None
     right = Explored(run, bench, "untested right", Options(bench.cc, source, 2, ["-DRIGHT"]))
     for right.options.scenario in orders.SCENARIOS:
         yield f"the host's own test, {right.options.scenario}, every order of a right driver", wrong_right(right.report())

@@ -115,7 +115,8 @@ VOID WdmUnloadDriver(PDRIVER_OBJECT Driver)
 }
 
 /* Buffers as the I/O manager gives them, and the packet frees them: of a read or write the one that the flags of the
-   stack's topmost device ask for. A control's are given at its first send, when its code is known (mdl.c). */
+   stack's topmost device ask for, but Wine's I/O manager gives a system buffer whatever they say. A control's are given
+   at its first send, when its code is known (mdl.c). */
 static void give_buffer(PIRP irp, PDEVICE_OBJECT top, UCHAR major, ULONG length, WDM_SITE at)
 {
     const bool is_transfer = major == IRP_MJ_READ || major == IRP_MJ_WRITE;
@@ -133,7 +134,7 @@ static void give_buffer(PIRP irp, PDEVICE_OBJECT top, UCHAR major, ULONG length,
     mdl->MdlFlags |= MDL_SOURCE_IS_NONPAGED_POOL | MDL_MAPPED_TO_SYSTEM_VA;
     mdl->MappedSystemVa = p->bytes->bytes;
     irp->UserBuffer = p->bytes->bytes;
-    if (!is_transfer || top->Flags & DO_BUFFERED_IO)
+    if (!is_transfer || top->Flags & DO_BUFFERED_IO || getenv("WDM_WINE"))
         irp->AssociatedIrp.SystemBuffer = p->bytes->bytes;
     else if (top->Flags & DO_DIRECT_IO)
         irp->MdlAddress = mdl;
@@ -245,7 +246,7 @@ static size_t write_out(void)
         write_places(path, n);
     hand_in(text, length, n);
     write_summary(n);
-    say("%zu entries, %d faults, %d notes", n, n_faults, n_notes);
+    say("%zu entries, %d faults%s, %d notes", n, n_faults, stopped_by ? " (one of them that it stopped)" : "", n_notes);
     if (n_early)
         say("recorded before the dispatch returned, since another thread had the packet: %d", n_early);
     return n;
