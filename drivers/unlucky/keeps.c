@@ -60,12 +60,11 @@ static NTSTATUS Read(PDEVICE_OBJECT DeviceObject, PIRP Irp)
     return STATUS_PENDING;
 }
 
-/* Ends the oldest read whose cancel routine doesn't run. */
-static NTSTATUS Write(PDEVICE_OBJECT DeviceObject, PIRP Irp)
+/* The oldest read whose cancel routine doesn't run, or NULL. */
+static PIRP TakeRead(VOID)
 {
     PIRP read = NULL;
     KIRQL irql;
-    UNREFERENCED_PARAMETER(DeviceObject);
     KeAcquireSpinLock(&lock, &irql);
     while (!read && !IsListEmpty(&reads)) {
         PLIST_ENTRY entry = RemoveHeadList(&reads);
@@ -75,6 +74,13 @@ static NTSTATUS Write(PDEVICE_OBJECT DeviceObject, PIRP Irp)
             read = irp;
     }
     KeReleaseSpinLock(&lock, irql);
+    return read;
+}
+
+static NTSTATUS Write(PDEVICE_OBJECT DeviceObject, PIRP Irp)
+{
+    PIRP read = TakeRead();
+    UNREFERENCED_PARAMETER(DeviceObject);
     if (read)
         Complete(read, STATUS_SUCCESS);
     return Complete(Irp, STATUS_SUCCESS);
@@ -134,6 +140,9 @@ static NTSTATUS Pass(PDEVICE_OBJECT DeviceObject, PIRP Irp)
 {
     const PIO_STACK_LOCATION stack = IoGetCurrentIrpStackLocation(Irp);
     const BOOLEAN goes = stack->MajorFunction == IRP_MJ_PNP && stack->MinorFunction == IRP_MN_REMOVE_DEVICE;
+    PIRP read;
+    while (goes && (read = TakeRead()) != NULL)
+        Complete(read, STATUS_DELETE_PENDING);
     IoSkipCurrentIrpStackLocation(Irp);
     const NTSTATUS status = IoCallDriver(lower, Irp);
     if (goes) {
