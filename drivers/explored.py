@@ -288,6 +288,11 @@ def test_untested(run, bench):
     missing = [it for it in wanted if it not in said]
     yield "its schedule goes to the fault, which names the cancel routine that had begun", f"no {missing}: {said}" if missing \
         else None
+    touches = Explored(run, bench, "untested touches", Options(bench.cc, source, 2, ["-DRIGHT", "-DTOUCHES"]))
+    for touches.options.scenario in ("overlap", "cancel"):
+        told = touches.report().facts
+        well = told["ended"] == "failed" and told["why"].startswith("Touched:")
+        yield f"the host's own test, {touches.options.scenario}, a packet touched after it was held", None if well else str(told)
     right = Explored(run, bench, "untested right", Options(bench.cc, source, 2, ["-DRIGHT"]))
     for right.options.scenario in orders.SCENARIOS:
         yield f"the host's own test, {right.options.scenario}, every order of a right driver", wrong_right(right.report())

@@ -3,6 +3,9 @@
  *
  * WDM_SCENARIO names the piece. Each puts the drivers, in their order, on a bottom device that completes reads and writes
  * later, and starts them. A driver that creates a device in DriverEntry gets the requests there, and only the first two.
+ *
+ * The I/O manager frees the requests at their end, as nearly all on Windows, so that a dispatch that touches its packet after
+ * another thread could end it is told. Only that of a driver elsewhere is freed by its sender.
  */
 #include "wdm_test.h"
 #include <pthread.h>
@@ -10,7 +13,7 @@
 extern const struct { const char *name; PDRIVER_INITIALIZE entry; } wdm_drivers[];
 extern const int wdm_n_drivers;
 
-typedef struct { PIRP irp; KEVENT done; NTSTATUS status; } Request;
+typedef struct { PIRP irp; KEVENT done; IO_STATUS_BLOCK result; BOOLEAN is_kept; } Request;
 static PDEVICE_OBJECT top;
 static Request pended;
 
@@ -18,7 +21,7 @@ static NTSTATUS keep(PDEVICE_OBJECT device, PIRP irp, PVOID context)
 {
     Request *r = context;
     (void)device;
-    r->status = irp->IoStatus.Status;
+    r->result = irp->IoStatus;
     KeSetEvent(&r->done, IO_NO_INCREMENT, FALSE);
     return STATUS_MORE_PROCESSING_REQUIRED;
 }
@@ -26,8 +29,8 @@ static NTSTATUS keep(PDEVICE_OBJECT device, PIRP irp, PVOID context)
 static void build(Request *r, UCHAR major)
 {
     KeInitializeEvent(&r->done, NotificationEvent, FALSE);
-    r->irp = WdmBuildIrp(top, major, 0, 16, NULL, NULL);
-    IoSetCompletionRoutine(r->irp, keep, r, TRUE, TRUE, TRUE);
+    r->is_kept = FALSE;
+    r->irp = WdmBuildIrp(top, major, 0, 16, &r->result, &r->done);
 }
 
 static void start(Request *r, UCHAR major)
@@ -36,11 +39,14 @@ static void start(Request *r, UCHAR major)
     IoCallDriver(top, r->irp);
 }
 
-/* A driver elsewhere sends it, without a file. */
+/* A driver elsewhere sends it, without a file, and frees it. */
 static void start_without_file(Request *r, UCHAR major)
 {
-    build(r, major);
+    KeInitializeEvent(&r->done, NotificationEvent, FALSE);
+    r->is_kept = TRUE;
+    r->irp = WdmBuildIrp(top, major, 0, 16, NULL, NULL);
     IoGetNextIrpStackLocation(r->irp)->FileObject = r->irp->Tail.Overlay.OriginalFileObject = NULL;
+    IoSetCompletionRoutine(r->irp, keep, r, TRUE, TRUE, TRUE);
     IoCallDriver(top, r->irp);
 }
 
@@ -49,10 +55,11 @@ static void finish(Request *r)
 {
     LARGE_INTEGER limit = { .QuadPart = -10000LL * 50 };
     if (KeWaitForSingleObject(&r->done, Executive, KernelMode, FALSE, &limit) == STATUS_TIMEOUT) {
-        IoCancelIrp(r->irp);
+        WdmCancelRequest(r->irp);
         KeWaitForSingleObject(&r->done, Executive, KernelMode, FALSE, NULL);
     }
-    IoFreeIrp(r->irp);
+    if (r->is_kept)
+        IoFreeIrp(r->irp);
 }
 
 static void *read_once(void *context)
@@ -71,7 +78,7 @@ static void *finish_pended(void *context)
 
 static void *cancel_pended(void *context)
 {
-    IoCancelIrp(pended.irp);
+    WdmCancelRequest(pended.irp);
     return context;
 }
 

@@ -83,6 +83,9 @@ static NTSTATUS Read(PDEVICE_OBJECT DeviceObject, PIRP Irp)
     }
     InsertTailList(&ext->Reads, &Irp->Tail.Overlay.ListEntry);
     KeReleaseSpinLock(&ext->Lock, irql);
+#ifdef TOUCHES /* another fault: by now the read may have ended, and its packet be freed */
+    Irp->IoStatus.Information = 0;
+#endif
     return STATUS_PENDING;
 }
 
