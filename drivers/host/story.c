@@ -29,11 +29,11 @@ void remember_fault(void) { at_fault = at_fault < 0 ? n_switches : at_fault; }
 
 static void put_place(FILE *out, const Place *p)
 {
-    const char *whose = p->at.file && is_hosts_file(p->at.file) ? "the host's " : "";
+    const char *folder = p->at.file && is_hosts_file(p->at.file) ? "drivers/host/" : "";
     if (p->pc)
         fprintf(out, "+0x%lx in %s (%s)", place_in_program((const char *)p->pc - 1), function_name(p->pc), p->what);
     else
-        fprintf(out, "%s%s%s%s", whose, p->at.file ? place(p->at) : "", p->at.file ? ", " : "", p->what);
+        fprintf(out, "%s%s%s%s", folder, p->at.file ? place(p->at) : "", p->at.file ? ", " : "", p->what);
 }
 
 static void put_next(FILE *out, const Switch *s, const char *then)
