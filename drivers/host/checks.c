@@ -44,6 +44,8 @@ static const Check checks[] = {
       "call it before the packet is passed on, completed, or its routine returns" },
     { "ListCorrupt", "0x139/0x3", "Bug Check 0x139: KERNEL_SECURITY_CHECK_FAILURE",
       "remove an entry once, and initialize the head before" },
+    { "StillInitializing", "no stop code", "Guidelines for Writing AddDevice Routines",
+      "clear DO_DEVICE_INITIALIZING in its Flags when it is attached" },
     { "LockInFreedMemory", "0xC4/0x1006", "Deadlock Detection", "give it back before the memory goes" },
 };
 

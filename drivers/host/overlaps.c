@@ -163,7 +163,7 @@ static void play_on_stack(PDRIVER_OBJECT *loaded, const char *scenario)
     PDEVICE_OBJECT bottom = WdmCreateBottom(TRUE);
     for (int i = 0; i < wdm_n_drivers; i++)
         if (loaded[i] && loaded[i]->DriverExtension->AddDevice)
-            loaded[i]->DriverExtension->AddDevice(loaded[i], bottom);
+            WdmAddDevice(loaded[i], bottom);
     top = IoGetAttachedDevice(bottom);
     if (top != bottom) {
         pnp(IRP_MN_START_DEVICE);
