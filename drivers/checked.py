@@ -19,6 +19,7 @@ NO_COMPLAINT = None
 # Drivers of unlucky/ that stand on each other, and the runs that tell the last one's mistakes. A plain run tells none
 # of them; where RIGHT is defined there are none. Each is told at its own line.
 UNLUCKY = [(["allocates"], "--verify"), (["answers", "asks"], "--force-pending"), (["keeps"], "--cancel-everywhere")]
+LENT = " ".join(f"stacks/lent/{it}.c" for it in ("transport", "client", "test"))
 PORTS = "--library stacks/ports/portclass.c stacks/ports/portmini.c stacks/ports/test.c"
 VERIFIED = ["samples",
             *(f"stacks/{it}.c" for it in "children removal retry handover direct port enumerate".split()),
@@ -65,7 +66,7 @@ def tests(bench, names_of, complaint):
 
 def whole_plans(stacks):
     """Returns what whole plans are made over where `verified` is chosen."""
-    return ["samples", PORTS, *(f"stacks/{it}.c" for it in stacks), *(f"--args {it}=all shapes" for it in planted.RIGHT_SHAPES)]
+    return ["samples", PORTS, LENT, *(f"stacks/{it}.c" for it in stacks), *(f"--args {it}=all shapes" for it in planted.RIGHT_SHAPES)]
 
 
 def right_verified(bench, wish, minutes=0.4):

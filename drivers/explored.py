@@ -18,7 +18,7 @@ RACES = sorted(it[:-2] for it in os.listdir(HERE + "/races") if it.endswith(".c"
 STACKS = {"children": (2, 2), "keyboard": (2, 1), "late": (2, 2), "policy": (2, 2), "power": (1, 1), "removal": (2, 1),
           "retry": (2, 2), "serial": (2, 2), "split": (1, 1), "watchdog": (2, 2), "handover": (2, 1), "port": (2, 2),
           "direct": (2, 2), "shared": (1, 1), "settings": (2, 2), "enumerate": (2, 2), "ports": (2, 2),
-          "samples": (2, 2)}
+          "samples": (2, 2), "journal": (2, 2), "mirror": (2, 2), "lent": (2, 2)}
 # Compared with two preemptions where `compared` is chosen, and these races too, as they stand: without the reduction each
 # is some thousand runs.
 LONGER = ["keyboard", "handover", "shared", "power", "split", "removal"]
@@ -88,11 +88,13 @@ class Options:
 
 def stack_options(cc, name, preemptions):
     """The options for a stack: a file, a class driver with its minidriver, or the samples with their second thread."""
-    test = {"ports": "stacks/ports/test", "samples": "samples/stack"}.get(name, f"stacks/{name}")
+    test = {"ports": "stacks/ports/test", "lent": "stacks/lent/test", "samples": "samples/stack"}.get(name, f"stacks/{name}")
     options = Options(cc, f"{HERE}/{test}.c", preemptions)
     if name == "ports":
         options.source.insert(0, HERE + "/stacks/ports/portmini.c")
         options.library = [HERE + "/stacks/ports/portclass.c"]
+    if name == "lent":
+        options.source = [f"{HERE}/stacks/lent/{it}.c" for it in ("transport", "client", "test")]
     if name == "samples":
         options.source, options.args = [HERE + "/samples"], "60"
     return options

@@ -113,10 +113,11 @@ int main(void)
 {
     WdmMakeFile(L"\\SystemRoot\\journal.log");
     PDRIVER_OBJECT driver = WdmLoadDriver("journal", DriverEntry);
-    for (ULONG i = 0; driver && i < WdmRounds(3); i++)
+    const ULONG rounds = WdmRounds(3);
+    for (ULONG i = 0; driver && i < rounds; i++)
         WdmSend(driver->DeviceObject, IRP_MJ_WRITE, 0, 8);
     if (driver)
         WdmUnloadDriver(driver);
-    WdmExpectEntries(14);
+    WdmExpectEntries(2 + 4 * rounds);
     return WdmFinish();
 }

@@ -123,9 +123,10 @@ int main(void)
 {
     PDRIVER_OBJECT driver = WdmLoadDriver("mirror", DriverEntry);
     const PEXTENSION ext = driver->DeviceObject->DeviceExtension;
+    const ULONG rounds = WdmRounds(4);
     for (ULONG i = 0; i < SIDES; i++)
         ext->Sides[i] = WdmCreateBottom(i > 0);
-    for (ULONG i = 0; i < WdmRounds(4); i++) {
+    for (ULONG i = 0; i < rounds; i++) {
         WdmSend(driver->DeviceObject, IRP_MJ_WRITE, 0, 8);
         WdmSend(driver->DeviceObject, IRP_MJ_READ, 0, 8 + i % 2);
     }
@@ -133,6 +134,6 @@ int main(void)
     for (ULONG i = 0; i < SIDES; i++)
         IoDeleteDevice(ext->Sides[i]);
     WdmUnloadDriver(driver);
-    WdmExpectEntries(90);
-    return WdmFinish() || writes != WdmRounds(4);
+    WdmExpectEntries(6 + 21 * rounds);
+    return WdmFinish() || writes != rounds;
 }

@@ -1,8 +1,9 @@
 /* A filter that counts the bytes that were read.
  *
  * Why. Where no routine is set, the I/O manager copies the mark of the location below into the one above. Once a
- * routine is asked, that is the routine's work: it marks if PendingReturned is set. The dispatch hands the lower
- * driver's answer up, so the mark has to say the same. A routine that finds PendingReturned FALSE doesn't mark. */
+ * routine is called, that is the routine's work: it marks if PendingReturned is set. The dispatch hands the lower
+ * driver's answer up, so the mark has to say the same. A routine that finds PendingReturned FALSE doesn't mark.
+ * Right, too: the dispatch marks before it sends, and always returns STATUS_PENDING. Then the routine needs no mark. */
 #include <wdm.h>
 
 typedef struct { PDEVICE_OBJECT Lower; } EXTENSION, *PEXTENSION;

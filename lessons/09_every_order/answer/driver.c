@@ -2,7 +2,8 @@
  *
  * Why. IoSetCancelRoutine(irp, NULL) tells who has the packet, and the mistake drops its answer. If the cancel came
  * between setting the routine and taking it out, the answer is NULL: the routine runs, and completes the packet.
- * Whoever completes it too completes it twice. */
+ * Whoever completes it too completes it twice. In the order that was shown, the cancel came after line 19 had taken the
+ * lock, before line 22 of the lesson's driver.c. */
 #include <wdm.h>
 
 static KSPIN_LOCK Lock;
