@@ -117,7 +117,7 @@ FAULTS = [
            [(FILTER_SEND, FILTER_FORWARD + "    status = IoCallDriver(ext->Lower, Irp);\n"
              "    IoCompleteRequest(Irp, IO_NO_INCREMENT);\n    return status;\n")],
            ["NotOwner ", "filter.c:", "FilterRead, dispatch for READ of D2 (filter)",
-            "by D2 (filter), which D0 (bus) has"],
+            "by D2 (filter), sent before at toaster.c:", "; the packet is with D0 (bus)"],
            refused="NotOwner"),
     stack("a thread completes twice", "removal.c",
           [("            IoReleaseRemoveLock(&ext->RemoveLock, irp);\n        }\n    }",

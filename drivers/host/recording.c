@@ -89,17 +89,17 @@ void refuse(Entry *e, const char *name)
     const char *rule = second ? "CompletedTwice" : name;
     tell_before(e->p, second ? "Ended" : name, before, sizeof before);
     if (e->p && !second && !strcmp(name, "NotOwner"))
-        snprintf(holder, sizeof holder, ", which %s has", who_of(e->p, e->p->owner));
+        snprintf(holder, sizeof holder, "; the packet is with %s", who_of(e->p, e->p->owner));
     if (is_expected_refusal(name))
         note("a refusal that the test expects", "%s is refused: %s", op_names[e->op], name);
     else if (e->op <= REMOVE)
         fault(rule, NULL, "refused for %s%s", who(e->device),
               !strcmp(name, "NotDrained") ? held_tags(e->device) : !strcmp(name, "InFlight") ? packet_at(e->device) : "");
     else if (e->op >= SET_NEXT && e->op <= SET_CANCEL)
-        fault(rule, e->p, "by %s%s%s%s; refused: %s", who_of(e->p, e->by), holder, before, second ? none_taken(e->p) : "",
+        fault(rule, e->p, "by %s%s%s%s; refused: %s", who_of(e->p, e->by), before, holder, second ? none_taken(e->p) : "",
               name);
     else
-        fault(rule, e->p, "by %s%s%s; refused: %s", who_calls(), holder, before, name);
+        fault(rule, e->p, "by %s%s%s; refused: %s", who_calls(), before, holder, name);
     answered(e, REFUSED, 0);
 }
 

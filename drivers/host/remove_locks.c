@@ -44,7 +44,8 @@ static const char *tagged(const Held *h)
     else if (p->owner == ENDED)
         snprintf(text + n, sizeof text - (size_t)n, ", which ended with 0x%x)", (unsigned)p->status);
     else
-        snprintf(text + n, sizeof text - (size_t)n, ", which hasn't ended)");
+        snprintf(text + n, sizeof text - (size_t)n, p->owner == ORIGINATOR && p->sites.completed.file
+                 ? ", which its originator has again)" : ", which hasn't ended)");
     return text;
 }
 
@@ -213,7 +214,7 @@ VOID WdmIoReleaseRemoveLockAndWait(PIO_REMOVE_LOCK RemoveLock, PVOID Tag, WDM_SI
         wait_for_host(is_drained, k);
     touch(k, SYNCS);
     if (k->n)
-        fault("NotDrained", NULL, "%s isn't drained: %d held%s", lock_name(d), k->n, held_tags(d));
+        fault("NotDrained", NULL, "%s isn't drained, so Windows would wait for ever: %d held%s", lock_name(d), k->n, held_tags(d));
     else if (k->removed) {
         write_word("drained", d, NULL, "\"yes\"", self.seat, -1);
         k->knows |= 1ull << self.seat;

@@ -371,7 +371,7 @@ void end_by_schedule(void *result)
     Thread *t = &threads[running];
     t->result = result;
     t->ended = true;
-    t->place = (Place){ .what = "its end" };
+    t->place = (Place){ .what = "ends" };
     touch(t, SYNCS);
     choose(AT_END);
     abort();

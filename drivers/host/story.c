@@ -82,7 +82,8 @@ void tell_story(FILE *out)
         chosen += switches[i].is_decision;
         early += switches[i].preempts || switches[i].early;
     }
-    fprintf(out, "schedule: %d switches, %d of them preemptions or early timers\n", n_switches, early);
+    fprintf(out, "schedule: %d switch%s, %d of them preemptions or early timers\n", n_switches, n_switches == 1 ? "" : "es",
+            early);
     if (first_chosen < 0 || end <= first_chosen)
         return;
     if (first_chosen)

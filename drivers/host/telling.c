@@ -137,7 +137,7 @@ const char *who_of(const Packet *p, int device)
         return who(device);
     char *text = passing_text();
     if (p->allocator < 0 || p->is_built)
-        snprintf(text, 200, "who had it built at %s", place(p->sites.allocated));
+        snprintf(text, 200, "its originator (built at %s)", place(p->sites.allocated));
     else
         snprintf(text, 200, "(%s), which allocated it at %s", drivers[p->allocator]->HostName, place(p->sites.allocated));
     return text;
@@ -261,7 +261,7 @@ void fault_of(const char *rule, const Packet *p, const Frame *f, const char *how
         return;
     int n = 0;
     if (f->last.file)
-        n = snprintf(where, sizeof where, "%s (its last call, %s) in ", place(f->last), f->last_call);
+        n = snprintf(where, sizeof where, "%s (after %s) in ", place(f->last), f->last_call);
     else if (is_in_program(f->fn))
         n = snprintf(where, sizeof where, "+0x%lx in %s: ", place_in_program(f->fn), function_name(f->fn));
     snprintf(where + n, sizeof where - (size_t)n, "%s, IRP %u.%lu", what_runs(f), p->slot, (unsigned long)p->use);

@@ -265,7 +265,8 @@ static size_t write_out(void)
         write_places(path, n);
     hand_in(text, length, n);
     write_summary(n);
-    say("%zu entries, %d faults%s, %d notes", n, n_faults, stopped_by ? " (one of them that it stopped)" : "", n_notes);
+    say("%zu entries, %d fault%s%s, %d notes", n, n_faults, n_faults == 1 ? "" : "s",
+        stopped_by ? " (one of them that it stopped)" : "", n_notes);
     if (n_early)
         say("recorded before the dispatch returned, since another thread had the packet: %d", n_early);
     return n;

@@ -77,7 +77,7 @@ NTSTATUS DriverEntry(PDRIVER_OBJECT DriverObject, PUNICODE_STRING RegistryPath)
     const NTSTATUS status = IoCreateDevice(DriverObject, 0, NULL, FILE_DEVICE_UNKNOWN, 0, FALSE, &device);
     if (!NT_SUCCESS(status))
         return status;
-    device->StackSize = 3; /* room for the transport's stack */
+    device->StackSize = 4; /* room for the transport's stack */
     Item = IoAllocateWorkItem(device);
     if (Item == NULL) {
         IoDeleteDevice(device);
