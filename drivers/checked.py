@@ -344,7 +344,8 @@ def missing_rules(names):
         rules = re.findall(r'^    \{ "(\w+)", ', it.read(), re.M)
     with open(HERE + "/VERIFIER.md", encoding="utf-8") as it:
         page = set(re.findall(r"^\| (\w+) \|", it.read(), re.M))
-    tried = {it.split("_")[0] for it in names}
+    with open(HERE + "/races/untested/pends.c", encoding="utf-8") as it: # see reaching.py
+        tried = {it.split("_")[0] for it in names} | set(re.findall(r"/\* told: (\w+) \*/", it.read()))
     missing = [f"{it} has no case" for it in rules if it not in tried]
     missing += [f"{it} has no row" for it in rules if it not in page]
     missing += [f"{it} is a row, and no rule" for it in sorted(page - set(rules) - {"Rule"})]

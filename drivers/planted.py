@@ -361,6 +361,7 @@ HOSTILE = {
     "hands_over_no_device": [STOPPED + "a pointer that is no device", "at hands_over_no_device.c:7"],
     "keeps_a_cancelled_packet": ["FAULT CancelledAndHeld", "keeps_a_cancelled_packet.c:13 in Read",
                                  "if (Irp->Cancel && IoSetCancelRoutine(Irp, NULL) != NULL) complete it"],
+    "keeps_over_surprise": ["FAULT KeptOverSurprise", "keeps_over_surprise.c:26 in Read", "still holds it when"],
     "leaves_a_status_block": ["FAULT StackBlock", "leaves_a_status_block.c:11 in Read", "its IoStatusBlock lies on the"],
     "leaves_an_event": ["FAULT StackBlock", "leaves_an_event.c:12 in Read", "its event lies on the stack of Read"],
     "fails_in_driver_entry": ["FAULT DriverEntry", "DriverEntry of fails_in_driver_entry returned 0xc000000e"],

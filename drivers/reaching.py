@@ -72,19 +72,27 @@ def samples(bench):
     yield "the host's own test over the samples", NO_COMPLAINT if not status else said[-900:]
 
 
+def line_in_pends(rule):
+    with open(PENDS, encoding="utf-8") as it:
+        return next(n for n, line in enumerate(it, 1) if f"/* told: {rule} */" in line)
+
+
 def held_at_removal(bench):
     """Gives a complaint where a driver whose removal leaves reads in its queue isn't told, by its line, or where it is told
     of one that ends them: plainly, and in every order."""
-    with open(PENDS, encoding="utf-8") as it:
-        number = next(n for n, line in enumerate(it, 1) if "/* told: NotDrained */" in line)
-    told = re.compile(rf"^host: FAULT NotDrained .*: pends\.c:{number} in Pnp .*pends\.c:\d+ in Read ", re.M)
+    told = re.compile(rf"^host: FAULT NotDrained .*: pends\.c:{line_in_pends('NotDrained')} in Pnp .*pends\.c:\d+ in Read ", re.M)
+    kept = re.compile(rf"^host: FAULT KeptOverSurprise .*: pends\.c:{line_in_pends('KeptOverSurprise')} in Read: ", re.M)
     orders = ["--every-order", "--preemptions", "1", "--processes", "1", "--judge", "2", "--scenario"]
     for name, words in (("plainly", []), ("removed, every order", [*orders, "remove"]),
                         ("gone by surprise, every order", [*orders, "surprise"])):
         said, status = run(bench, "--cflag=-DRIGHT", "--cflag=-DUNDRAINED", *words, PENDS)
-        yield f"reads are held at a removal, {name}", NO_COMPLAINT if status == 1 and told.search(said) else said[-900:]
+        well = status == 1 and told.search(said) and bool(kept.search(said)) == ("remove" not in words)
+        yield f"reads are held at a removal, {name}", NO_COMPLAINT if well else said[-900:]
         said, status = run(bench, "--cflag=-DRIGHT", *words, PENDS)
         yield f"reads are ended by a removal, {name}", NO_COMPLAINT if not status and "FAULT" not in said else said[-900:]
+    said, status = run(bench, "--cflag=-DRIGHT", "--cflag=-DLATE", *orders, "surprise", PENDS)
+    well = status == 1 and kept.search(said)
+    yield "a read that comes when the device is gone is held, every order", NO_COMPLAINT if well else said[-900:]
 
 
 def with_its_flag(bench):

@@ -44,6 +44,10 @@ static const Check checks[] = {
       "call it before the packet is passed on, completed, or its routine returns" },
     { "ListCorrupt", "0x139/0x3", "Bug Check 0x139: KERNEL_SECURITY_CHECK_FAILURE",
       "remove an entry once, and initialize the head before" },
+    { "StillInitializing", "no stop code", "Guidelines for Writing AddDevice Routines",
+      "clear DO_DEVICE_INITIALIZING in its Flags when it is attached" },
+    { "KeptOverSurprise", "no stop code", "Handling an IRP_MN_SURPRISE_REMOVAL Request",
+      "fail what is held in the dispatch of IRP_MN_SURPRISE_REMOVAL, and what comes later" },
     { "LockInFreedMemory", "0xC4/0x1006", "Deadlock Detection", "give it back before the memory goes" },
 };
 

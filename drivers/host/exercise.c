@@ -197,6 +197,10 @@ static void remove_by_surprise(PDEVICE_OBJECT bottom, PDEVICE_OBJECT top)
     if (writes)
         end_request(&write, PATIENT);
     close_it(top);
+    let_bottom_finish(bottom);
+    for (int i = 0; i < asked.n; i++)
+        if (is_held(&asked.request[i]))
+            WdmTellKept(asked.request[i].irp);
     WdmRemove(bottom);
     end_asked(&asked);
 }

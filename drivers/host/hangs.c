@@ -19,6 +19,31 @@ void tell_cancelled_and_held(const Packet *p)
              p->ran ? function_name((void *)p->ran) : "", place(p->sites.sent));
 }
 
+typedef struct { const Packet *p; uint64_t use; } Kept;
+
+static bool is_let_go(const void *kept)
+{
+    const Kept *k = kept;
+    return !lives(k->p) || k->p->use != k->use || (k->p->owner == ORIGINATOR && !k->p->asking);
+}
+
+/* The device is gone: a driver that keeps the request until IRP_MN_REMOVE_DEVICE is told, once nothing else goes on. */
+VOID WdmTellKept(PIRP Irp)
+{
+    Call c;
+    enter_host(&c, "IRP_MN_SURPRISE_REMOVAL", (WDM_SITE){ 0 });
+    const Packet *p = find(Irp);
+    const Kept kept = { p, p->use };
+    if (lives(p) && !wait_for_host(is_let_go, &kept) && p->owner >= 0 && !is_bottom(devices[p->owner].raw)) {
+        const bool was_set = p->sites.cancel.file != NULL;
+        c.name = was_set ? "IoSetCancelRoutine" : "IoCallDriver";
+        c.at = was_set ? p->sites.cancel : p->sites.sent;
+        broken("KeptOverSurprise", p, "%s still holds it when IRP_MN_SURPRISE_REMOVAL is over. Sent at %s", who(p->owner),
+               place(p->sites.sent));
+    }
+    leave_host();
+}
+
 static bool is_in_flight(const Packet *p) { return lives(p) && (p->owner != ORIGINATOR || p->asking); }
 
 /* Who has the packet. Returns how long the text is. */

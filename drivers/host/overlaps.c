@@ -15,6 +15,7 @@ extern const int wdm_n_drivers;
 
 typedef struct { PIRP irp; KEVENT done; IO_STATUS_BLOCK result; BOOLEAN is_kept; } Request;
 static PDEVICE_OBJECT top;
+VOID WdmTellKept(PIRP Irp); /* of the host */
 static Request pended;
 
 static NTSTATUS keep(PDEVICE_OBJECT device, PIRP irp, PVOID context)
@@ -67,6 +68,12 @@ static void *read_once(void *context)
     Request r;
     start(&r, IRP_MJ_READ);
     finish(&r);
+    return context;
+}
+
+static void *read_without_file(void *context)
+{
+    start_without_file(context, IRP_MJ_READ);
     return context;
 }
 
@@ -129,6 +136,19 @@ static void power(void)
     pthread_join(t, NULL);
 }
 
+/* The device is gone, while a read is held and another one comes: the driver fails both. */
+static void take_by_surprise(Request *held)
+{
+    pthread_t t;
+    Request late;
+    pthread_create(&t, NULL, read_without_file, &late);
+    pnp(IRP_MN_SURPRISE_REMOVAL);
+    pthread_join(t, NULL);
+    WdmTellKept(held->irp);
+    WdmTellKept(late.irp);
+    finish(&late);
+}
+
 /* The device goes while two reads are held in it: one that its sender cancels at some time, and one that the removal ends.
    A driver that looks at files may want one: then the second isn't there, as on Windows, where who has a file closes it
    before. */
@@ -141,7 +161,10 @@ static void remove_with_reads(UCHAR before)
     if (holds)
         start_without_file(&held, IRP_MJ_READ);
     pthread_create(&t, NULL, finish_pended, NULL);
-    pnp(before);
+    if (holds && before == IRP_MN_SURPRISE_REMOVAL)
+        take_by_surprise(&held);
+    else
+        pnp(before);
     pnp(IRP_MN_REMOVE_DEVICE);
     pthread_join(t, NULL);
     if (holds)
@@ -163,7 +186,7 @@ static void play_on_stack(PDRIVER_OBJECT *loaded, const char *scenario)
     PDEVICE_OBJECT bottom = WdmCreateBottom(TRUE);
     for (int i = 0; i < wdm_n_drivers; i++)
         if (loaded[i] && loaded[i]->DriverExtension->AddDevice)
-            loaded[i]->DriverExtension->AddDevice(loaded[i], bottom);
+            WdmAddDevice(loaded[i], bottom);
     top = IoGetAttachedDevice(bottom);
     if (top != bottom) {
         pnp(IRP_MN_START_DEVICE);

@@ -24,6 +24,9 @@ NTSTATUS make_request(PDEVICE_OBJECT top, What what, How how, int milliseconds);
 NTSTATUS set_power(PDEVICE_OBJECT top, UCHAR minor, DEVICE_POWER_STATE state);
 NTSTATUS set_system_power(PDEVICE_OBJECT top, UCHAR minor, SYSTEM_POWER_STATE state);
 
+/* Tells a driver that still holds it, where IRP_MN_SURPRISE_REMOVAL is over. */
+VOID WdmTellKept(PIRP Irp);
+
 /* The control codes that are sent: those of WDM_CONTROLS, and from `find_controls` on those of WDM_CANDIDATES, which
    stand in the drivers' source, and usual ones: all that aren't answered as a code is that nobody knows. */
 extern ULONG controls[];

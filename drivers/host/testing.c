@@ -18,13 +18,32 @@ static void tell_failed(const char *what, PDRIVER_OBJECT driver, NTSTATUS status
     leave_host();
 }
 
+/* AddDevice clears the flag of each device that it has made: only of those of DriverEntry the I/O manager does. Wine sets
+   none. */
+static void tell_initializing(PDRIVER_OBJECT driver, int first)
+{
+    for (int d = first; d < n_devices; d++) {
+        Call c;
+        enter_quietly(&c, "IoCreateDevice", devices[d].created);
+        const bool is_left = devices[d].live && devices[d].driver == driver && devices[d].raw->Flags & DO_DEVICE_INITIALIZING;
+        if (is_left && getenv("WDM_WINE"))
+            note("DO_DEVICE_INITIALIZING", "AddDevice of %s leaves DO_DEVICE_INITIALIZING set", driver->HostName);
+        else if (is_left)
+            broken("StillInitializing", NULL, "AddDevice of %s returns, and %s still has DO_DEVICE_INITIALIZING",
+                   driver->HostName, who(d));
+        leave_host();
+    }
+}
+
 NTSTATUS WdmAdd(PDRIVER_OBJECT Driver, PDEVICE_OBJECT Pdo, WDM_SITE at)
 {
-    const int before = self.driver;
+    const int before = self.driver, first = n_devices;
     self.driver = Driver->HostNumber;
     const NTSTATUS status = Driver->DriverExtension->AddDevice(Driver, Pdo);
     self.driver = before;
-    if (!NT_SUCCESS(status))
+    if (NT_SUCCESS(status))
+        tell_initializing(Driver, first);
+    else
         tell_failed("AddDevice", Driver, status, at);
     return status;
 }

@@ -20,9 +20,11 @@ static NTSTATUS AddDevice(PDRIVER_OBJECT DriverObject, PDEVICE_OBJECT Pdo)
     PDEVICE_OBJECT device;
     const NTSTATUS status = IoCreateDevice(DriverObject, sizeof(PDEVICE_OBJECT), NULL, FILE_DEVICE_UNKNOWN, 0, FALSE,
                                            &device);
-    if (NT_SUCCESS(status))
-        *(PDEVICE_OBJECT *)device->DeviceExtension = IoAttachDeviceToDeviceStack(device, Pdo);
-    return status;
+    if (!NT_SUCCESS(status))
+        return status;
+    *(PDEVICE_OBJECT *)device->DeviceExtension = IoAttachDeviceToDeviceStack(device, Pdo);
+    device->Flags &= ~(ULONG)DO_DEVICE_INITIALIZING;
+    return STATUS_SUCCESS;
 }
 
 static NTSTATUS PassDown(PDEVICE_OBJECT DeviceObject, PIRP Irp)

@@ -77,6 +77,7 @@ static NTSTATUS AddDevice(PDRIVER_OBJECT DriverObject, PDEVICE_OBJECT Pdo)
     InitializeListHead(&reads);
     KeInitializeSemaphore(&count, 0, 100);
     ext->Lower = IoAttachDeviceToDeviceStack(device, Pdo);
+    device->Flags &= ~(ULONG)DO_DEVICE_INITIALIZING;
     return PsCreateSystemThread(&thread, THREAD_ALL_ACCESS, NULL, NULL, NULL, Reader, ext);
 }
 

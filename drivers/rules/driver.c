@@ -6,6 +6,7 @@ static const CASE_ROW *const tables[] = { LockCases, LevelCases, PoolCases, Pack
 
 VOID UsesAfterwards(PEXTENSION Ext);
 CASE HasNone;
+BOOLEAN KeepsFlag; /* set before the device is added */
 
 /* Returns the name of the n-th case, or NULL. */
 const char *RulesName(ULONG n);
@@ -98,7 +99,7 @@ static NTSTATUS AddDevice(PDRIVER_OBJECT DriverObject, PDEVICE_OBJECT Pdo)
 {
     const ULONG size = sizeof(EXTENSION), type = FILE_DEVICE_UNKNOWN;
     PDEVICE_OBJECT device;
-    NTSTATUS status = IoCreateDevice(DriverObject, size, NULL, type, 0, FALSE, &device); /* told: NotPassedDown_None */
+    NTSTATUS status = IoCreateDevice(DriverObject, size, NULL, type, 0, FALSE, &device); /* told: NotPassedDown_None */ /* told: StillInitializing */
     if (!NT_SUCCESS(status))
         return status;
     PEXTENSION ext = device->DeviceExtension;
@@ -112,7 +113,8 @@ static NTSTATUS AddDevice(PDRIVER_OBJECT DriverObject, PDEVICE_OBJECT Pdo)
     KeInitializeMutex(&ext->Plain, 0);
     IoInitializeRemoveLock(&ext->RemoveLock, 'kcoL', 0, 0);
     ext->Lower = IoAttachDeviceToDeviceStack(device, Pdo);
-    device->Flags &= ~(ULONG)DO_DEVICE_INITIALIZING;
+    if (!KeepsFlag)
+        device->Flags &= ~(ULONG)DO_DEVICE_INITIALIZING;
     return STATUS_SUCCESS;
 }
 

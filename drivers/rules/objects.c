@@ -257,5 +257,6 @@ const CASE_ROW ObjectCases[] = {
     { "LockInFreedMemory_RemoveLock", FreesRemoveLock, NULL, NULL },
     { "UsedInFreedMemory_Extension", SignalsLate, NULL, NULL }, { "StartedEarly", NULL, StartsEarly, NULL },
     { "StartedEarly_Asks", AsksLater, AsksEarly, NULL }, { "ListCorrupt", RemovesTwice, NULL, NULL },
+    { "StillInitializing", NULL, NULL, NULL },
     { NULL, NULL, NULL, NULL },
 };

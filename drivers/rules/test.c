@@ -6,12 +6,14 @@
 DRIVER_INITIALIZE DriverEntry;
 const char *RulesName(ULONG n);
 VOID RulesSetPnp(PEXTENSION Ext, ULONG n);
+extern BOOLEAN KeepsFlag;
 
 static void run_case(ULONG n, BOOLEAN wrong)
 {
     PDRIVER_OBJECT driver = WdmLoadDriver("rules", DriverEntry);
     PDEVICE_OBJECT bottom = WdmCreateBottom(TRUE);
-    driver->DriverExtension->AddDevice(driver, bottom);
+    KeepsFlag = wrong && !strcmp(RulesName(n), "StillInitializing");
+    WdmAddDevice(driver, bottom);
     PDEVICE_OBJECT top = IoGetAttachedDevice(bottom);
     ((PEXTENSION)top->DeviceExtension)->Wrong = wrong;
     RulesSetPnp(top->DeviceExtension, n);

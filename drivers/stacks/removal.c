@@ -155,6 +155,7 @@ static NTSTATUS AddDevice(PDRIVER_OBJECT DriverObject, PDEVICE_OBJECT Pdo)
     ObReferenceObjectByHandle(thread, THREAD_ALL_ACCESS, NULL, KernelMode, &ext->Thread, NULL);
     ZwClose(thread);
     ext->Lower = IoAttachDeviceToDeviceStack(device, Pdo);
+    device->Flags &= ~(ULONG)DO_DEVICE_INITIALIZING;
     return STATUS_SUCCESS;
 }
 

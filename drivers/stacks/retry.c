@@ -76,6 +76,7 @@ static NTSTATUS AddDevice(PDRIVER_OBJECT DriverObject, PDEVICE_OBJECT Pdo)
     InitializeListHead(&ext->Failed);
     KeInitializeSemaphore(&ext->Count, 0, 1000);
     ext->Lower = IoAttachDeviceToDeviceStack(device, Pdo);
+    device->Flags &= ~(ULONG)DO_DEVICE_INITIALIZING;
     status = PsCreateSystemThread(&thread, THREAD_ALL_ACCESS, NULL, NULL, NULL, Retry, ext);
     if (!NT_SUCCESS(status)) {
         IoDetachDevice(ext->Lower);

@@ -140,8 +140,9 @@ static NTSTATUS Pass(PDEVICE_OBJECT DeviceObject, PIRP Irp)
 {
     const PIO_STACK_LOCATION stack = IoGetCurrentIrpStackLocation(Irp);
     const BOOLEAN goes = stack->MajorFunction == IRP_MJ_PNP && stack->MinorFunction == IRP_MN_REMOVE_DEVICE;
+    const BOOLEAN is_gone = stack->MajorFunction == IRP_MJ_PNP && stack->MinorFunction == IRP_MN_SURPRISE_REMOVAL;
     PIRP read;
-    while (goes && (read = TakeRead()) != NULL)
+    while ((goes || is_gone) && (read = TakeRead()) != NULL)
         Complete(read, STATUS_DELETE_PENDING);
     IoSkipCurrentIrpStackLocation(Irp);
     const NTSTATUS status = IoCallDriver(lower, Irp);

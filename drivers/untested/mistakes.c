@@ -176,11 +176,12 @@ static NTSTATUS Pnp(PDEVICE_OBJECT DeviceObject, PIRP Irp)
     PIRP wait;
     if (minor == IRP_MN_START_DEVICE)
         return Start(ext, Irp);
-    while (IS_RIGHT && minor == IRP_MN_REMOVE_DEVICE && (wait = TakeWait(ext)) != NULL)
+    const BOOLEAN goes = minor == IRP_MN_REMOVE_DEVICE || minor == IRP_MN_SURPRISE_REMOVAL;
+    while (IS_RIGHT && goes && (wait = TakeWait(ext)) != NULL)
         Complete(wait, STATUS_DELETE_PENDING, 0);
     if (minor == IRP_MN_REMOVE_DEVICE && NT_SUCCESS(IoAcquireRemoveLock(&ext->Reads, Irp)))
         IoReleaseRemoveLockAndWait(&ext->Reads, Irp);
-    if (minor == IRP_MN_REMOVE_DEVICE || minor == IRP_MN_SURPRISE_REMOVAL)
+    if (goes)
         Irp->IoStatus.Status = STATUS_SUCCESS;
     const NTSTATUS status = Pass(DeviceObject, Irp);
     if (minor == IRP_MN_REMOVE_DEVICE) {

@@ -72,8 +72,12 @@ static NTSTATUS Read(PDEVICE_OBJECT DeviceObject, PIRP Irp)
         return Complete(Irp, status, 0);
     KeAcquireSpinLock(&ext->Lock, &irql);
     IoMarkIrpPending(Irp);
-    IoSetCancelRoutine(Irp, CancelRead);
+    IoSetCancelRoutine(Irp, CancelRead); /* told: KeptOverSurprise */
+#ifdef LATE /* another fault: a read that comes when the device is gone is held */
+    if (Irp->Cancel) {
+#else
     if (ext->Gone || Irp->Cancel) {
+#endif
         if (IoSetCancelRoutine(Irp, NULL)) {
             status = Irp->Cancel ? STATUS_CANCELLED : STATUS_DELETE_PENDING;
             KeReleaseSpinLock(&ext->Lock, irql);
