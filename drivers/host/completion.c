@@ -40,7 +40,7 @@ static void end(Packet *p, Entry *e)
     else if (!p->is_built)
         fault("NotKept", p, "has ended, and no routine kept it for %s", who_of(p, ORIGINATOR));
     unwatch(p);
-    protect(p);
+    shut(p);
     if (event)
         set_event(event);
     free_ended(p);

@@ -182,6 +182,7 @@ struct Packet {
     bool writes_back, is_built; /* is_built: by the I/O manager, which frees it at its end */
     bool trapped, touch_untold, touched_by_sender;
     bool watched; /* watching.c: its page is closed, until somebody touches it */
+    bool shut;    /* traps.c: its page is closed for good: it has ended, or is free */
     uint64_t watcher; /* the number of the frame */
     const struct Call *watcher_calls;
     int sent_by;
@@ -396,6 +397,7 @@ NTSTATUS forward_in_place(Packet *p, int device);
 /* traps.c, remove_locks.c */
 void open_traps(void);
 void protect(Packet *p);
+void shut(Packet *p);
 void unprotect(Packet *p);
 void tell_touch(const char *call, PIRP irp);
 void tell_all_touches(void);

@@ -233,7 +233,7 @@ VOID WdmIoFreeIrp(PIRP Irp, WDM_SITE at)
         answered(e, DONE, 0);
         free_now(p);
         p->sites.freed = at;
-        protect(p);
+        shut(p);
     }
     leave_host();
 }

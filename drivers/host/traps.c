@@ -35,8 +35,9 @@ static void touched(int signal_number, siginfo_t *info, void *context)
         return;
     Packet *p = (char *)info->si_addr < arena || i >= MAX_PACKETS ? NULL : packets[i];
     const bool was_watched = p && unwatch(p);
-    if (was_watched && (!is_watcher(p) || is_code_of_holder(p, toucher_of(context)))) {
-        if (is_watcher(p))
+    const bool others_open_it = p && !was_watched && !__atomic_load_n(&p->shut, __ATOMIC_SEQ_CST);
+    if (others_open_it || (was_watched && (!is_watcher(p) || is_code_of_holder(p, toucher_of(context))))) {
+        if (was_watched && is_watcher(p))
             self.opened = p;
         mprotect(arena + i * PAGE, PAGE, PROT_READ | PROT_WRITE);
         return;
@@ -114,6 +115,7 @@ void unprotect(Packet *p)
     if (!p->irp)
         p->irp = (PIRP)(arena + (size_t)p->slot * PAGE);
     p->trapped = false;
+    __atomic_store_n(&p->shut, false, __ATOMIC_SEQ_CST);
     unwatch(p);
     mprotect(p->irp, PAGE, PROT_READ | PROT_WRITE);
 }
@@ -122,6 +124,14 @@ void protect(Packet *p)
 {
     if (is_on && !p->rides)
         mprotect(p->irp, PAGE, PROT_NONE);
+}
+
+/* From its end on. Two threads may touch the page of a watched packet at once: who comes second finds it watched no more,
+   and not shut. */
+void shut(Packet *p)
+{
+    __atomic_store_n(&p->shut, true, __ATOMIC_SEQ_CST);
+    protect(p);
 }
 
 static void tell(Packet *p)
