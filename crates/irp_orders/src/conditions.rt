@@ -1,6 +1,6 @@
 //! Conditions on what the orders of a script leave.
 
-ghost use Rattle.std.specs.Prelude.{All, IfErr, IfOk, IfSome};
+ghost use Rattle.std.specs.Prelude.{◌≡◌, ◌≤◌, ◌^◌, All, IfErr, IfOk, IfSome, None, length};
 ghost use Rattle.irp_orders.specs.Conditions.{IsRefusalNamed, IsScopeOf, IsStatusNamed, Says};
 ghost use Rattle.irp_orders.specs.Program.{IsUnread};
 
@@ -14,7 +14,8 @@ use std::alloc::Global;
 pub fn scope_of<'a>(script: &'a Script, names: &'a Names, knows_replies: bool) -> Option<Scope<'a>>
     requires statuses { All IsStatusNamed names.now.statuses.items }
     requires refusals { All IsRefusalNamed names.now.refusals.items }
-    ensures { IfSome result (IsScopeOf script.now knows_replies) }
+    ensures scope { IfSome result (IsScopeOf script.now knows_replies) }
+    ensures none { result ≡ None → 2 ^ 32 ≤ length script.now.steps }
 {
     let parts = script.parts();
     let Ok(steps) = u32::try_from(parts.steps.as_slice().len()) else {

@@ -4,8 +4,8 @@ use Rattle.irp_script_reader.specs.declared.script.ScriptParts.{ScriptParts}
 use Rattle.irp_orders.specs.Conditions.{IsRefusalNamed, IsStatusNamed}
 use Rattle.irp_orders.proofs.conditions.scope_of.Goals as goal
 
-pub returns : goal.returns
-returns c = record {
+pub returns-clause-scope : goal.returns-clause-scope
+returns-clause-scope c = record {
   labels = c.as_slice-2.ensures ∙ ap (λ (script : ScriptParts). script.labels) c.parts-parts.ensures.parts;
   steps = search rules;
   locks = ap (λ (script : ScriptParts). script.locks) c.parts-parts.ensures.parts;

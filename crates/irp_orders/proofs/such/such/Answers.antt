@@ -11,5 +11,5 @@ returns-in-Some-scope_of-clause-some c =
     c.in_ok-facts.ensures
     ∙ ap (λ (steps : List Step). facts_of steps c.args.end.now)
     (c.as_slice.ensures ∙ ap (λ (script : ScriptParts). script.steps) c.parts.ensures.parts) in
-    such_told c.args.script.now c.args.end.now c.in-Some-scope_of.scope c.in_ok-facts.facts c.said.result c.in-Some-scope_of.ensures are
+    such_told c.args.script.now c.args.end.now c.in-Some-scope_of.scope c.in_ok-facts.facts c.said.result c.in-Some-scope_of.ensures.scope are
     c.said.ensures.some
