@@ -30,7 +30,7 @@ Store::add_dispatch
 Store::add_driver
 irp_remove::open
 irp_slots::open
-irp_script::check
+irp_judge::check
 irp_shared::open
 irp_shared::open_with_limit
 read_again

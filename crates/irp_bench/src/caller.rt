@@ -11,10 +11,10 @@ ghost use Rattle.irp_manager.specs.ManagerStates.{state_of, Stepped};
 ghost use Rattle.irp_bench.specs.Makes.{Keeps};
 
 use crate::not_timed::NotTimed;
-use irp_manager::{KnowsNothing, Manager};
+use irp_manager::Manager;
 use irp_routines::{Ask, Store};
 use irp_shared::{Seat, Session, Shared, needs_token};
-use irp_types::{Call, Reply};
+use irp_types::{Call, KnowsNothing, Reply};
 use std::alloc::Global;
 use std::sync::Wait;
 

@@ -12,8 +12,8 @@ mod caller;
 mod drivers;
 
 use crate::drivers::{Drivers, FILTER_KNOWS, forwarded};
+use irp_judge::{Verdict, check};
 use irp_routines::{Dispatch, Routine};
-use irp_script::{Verdict, check};
 use irp_shared::Transcript;
 use irp_transcript_writer::{WriterOut, write_transcript};
 use irp_types::{Answer, Known, Plan, Reply, Rule, Shown, Status};

@@ -1,6 +1,5 @@
-//! The texts of scripts and transcripts, read and written.
+//! The texts of transcripts, read and written.
 //!
-//! - [`read_script`] reads bytes as a script, or answers its first fault.
 //! - [`read_transcript`] reads bytes as a transcript, or answers the first line that is refused.
 //! - [`Reader`] reads a transcript, too, and is fed its bytes block after block; it gives each line as it ends.
 //! - [`Ahead`] is what several threads read of a block before its lines' turn; a [`Reader`] is quicker with it.
@@ -25,10 +24,6 @@ mod round_trip;
 mod scan;
 
 pub use ahead::{Ahead, count_threads};
-pub use irp_script_reader::{
-    Behaviour, CompletionRoutine, MemberFault, Named, Script, ScriptFault, ScriptForm, ScriptParts,
-    ScriptRefusal, Section, Step, StepAct, read_script,
-};
 pub use irp_transcript_reader::ReadFault;
 pub use irp_transcript_writer::{Cause, Failed, Out, WriteFault, WriterOut, write_transcript};
 pub use line::Line;

@@ -9,9 +9,9 @@ ghost use Rattle.irp_transcript.specs.Headers.{fixed_of};
 ghost use Rattle.irp_judge.specs.Replayed.{IsMadeOf, slot_named};
 
 use crate::recorded_answers::RecordedAnswers;
-use irp_manager::{DrainNote, ManagerState, MapKeep, step_is_settled};
+use irp_manager::{ManagerState, MapKeep, step_is_settled};
 use irp_transcript::Header;
-use irp_types::{Entry, LockNo, Questions, Reply};
+use irp_types::{DrainNote, Entry, LockNo, Questions, Reply};
 use std::alloc::AllocError;
 
 /// A note that answers the same of each lock, as an entry says.

@@ -13,10 +13,10 @@ ghost use Rattle.irp_machine.specs.Standings.{managed};
 
 use crate::asker::ScriptAsker;
 use crate::terms::Terms;
-use irp_manager::{Applied, DrainNote, ManagerState};
+use irp_manager::{Applied, ManagerState};
 use irp_plain::{PlainKeep, next_slot, note_freed};
 use irp_transcript::Header;
-use irp_types::Call;
+use irp_types::{Call, DrainNote};
 use std::alloc::{AllocError, Global};
 
 /// What a header tells a manager.

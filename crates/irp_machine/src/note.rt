@@ -4,9 +4,8 @@ ghost use Rattle.std.specs.Prelude.{◌≡◌};
 ghost use Rattle.std.specs.List.{list_any};
 ghost use Rattle.irp_plain.specs.Seats.{is_drained};
 
-use irp_manager::DrainNote;
 use irp_plain::{Learned, knows_drained};
-use irp_types::LockNo;
+use irp_types::{DrainNote, LockNo};
 
 /// A note that knows what a seat has learned.
 #[derive(Clone, Copy)]

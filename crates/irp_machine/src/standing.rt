@@ -12,13 +12,13 @@ use crate::asker::ScriptAsker;
 use crate::calling::{self, new_manager, terms_of};
 use crate::marks::mark_behind_all;
 use crate::terms::Terms;
-use irp_manager::{Applied, DrainNote, ManagerState};
+use irp_manager::{Applied, ManagerState};
 use irp_plain::{
     ActPlace, Change, Given, NewLabel, NewSlot, NewWord, PlainKeep, SeatState, Slot, are_labels,
     are_same, copy_of_manager, is_same_manager, put_at,
 };
 use irp_transcript::Header;
-use irp_types::{Call, IrpRef};
+use irp_types::{Call, DrainNote, IrpRef};
 use std::alloc::{AllocError, Global};
 use std::marker::Model;
 use std::rc::Rc;

@@ -12,10 +12,9 @@ ghost use Rattle.irp_manager.specs.ManagerStates.{state_of, most_asked, KeepsFix
 ghost use Rattle.irp_manager.specs.ManagerStates.{SlotGivenBack, LeavesNext};
 
 use crate::manager_state::{Applied, ManagerState};
-use crate::note::DrainNote;
 use crate::slab_keep::SlabKeep;
 use irp_routines::{Ask, FixedTables};
-use irp_types::{Call, Limit};
+use irp_types::{Call, DrainNote, Limit};
 use std::alloc::{AllocError, Global};
 
 /// The sequential manager and its asker. It wishes for no slot, and keeps its packets in a slab (this project's own

@@ -28,14 +28,13 @@ ghost use Rattle.irp_manager.specs.ManagerStates.{state_of, most_asked, Stepped,
 ghost use Rattle.irp_manager.specs.ManagerStates.{SlotGivenBack, WasGivenBack, LeavesNext, Agrees, KeepsFixed};
 
 use crate::keep::Keep;
-use crate::note::DrainNote;
 use crate::packets::USE_LIMIT;
 use crate::{cancellation, packets};
 use irp_routines::Ask;
 use irp_stack::{NotCreated, Stacks};
 use irp_types::{
-    Asked, Call, CancelId, DeviceId, DriverId, IrpRef, Known, Limit, LockNo, Party, Refusal, Reply,
-    Setting, Status,
+    Asked, Call, CancelId, DeviceId, DrainNote, DriverId, IrpRef, Known, Limit, LockNo, Party,
+    Refusal, Reply, Setting, Status,
 };
 use std::alloc::{AllocError, Global};
 

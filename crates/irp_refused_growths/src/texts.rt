@@ -1,13 +1,11 @@
 //! The texts of scripts and transcripts.
 
 use crate::tried::{Fell, Halt, Tried, carried, made_or, wanted};
-use irp_fast_reader::{
-    Cause, ReadFault, Script, ScriptFault, WriteFault, WriterOut, read_again, read_script,
-    read_transcript, write_transcript,
-};
-use irp_script::{Verdict, check};
+use irp_fast_reader::{ReadFault, read_again, read_transcript};
+use irp_judge::{Verdict, check};
+use irp_script_reader::{Script, ScriptFault, read_script};
 use irp_shared::{Header, Transcript, TranscriptParts};
-use irp_transcript_writer::{Written, line_of};
+use irp_transcript_writer::{Cause, WriteFault, WriterOut, Written, line_of, write_transcript};
 use irp_types::Entry;
 use std::alloc::Global;
 use std::io::{self, Write};
@@ -79,7 +77,7 @@ fn judge(alloc: Global, transcript: &Transcript, tried: &mut Tried) -> Result<()
     let verdict = match check(alloc, transcript) {
         Ok(verdict) => verdict,
         Err(_) => {
-            tried.refused("irp_script::check", true)?;
+            tried.refused("irp_judge::check", true)?;
             check(alloc, transcript)?
         }
     };

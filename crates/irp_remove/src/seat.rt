@@ -7,8 +7,7 @@ use crate::reference::Reference;
 use crate::views::View;
 use arrayvec::ArrayVec;
 use atomic_table::Seat;
-use irp_manager::DrainNote;
-use irp_types::LockNo;
+use irp_types::{DrainNote, LockNo};
 use std::marker::Model;
 
 /// One user of the locks that it was opened with. It holds up to 64 references, and knows which locks it found drained.

@@ -1,5 +1,5 @@
 //! Scripts at work: what their closures answer, what their seats have at the cancel slots, the workers that run their
-//! steps, and hands between these; and, as a door to `irp_judge`, the judge of what they recorded.
+//! steps, and hands between these.
 #![tactic(auto)]
 
 mod answered;
@@ -29,8 +29,6 @@ pub use behaviours::{cancel_rule, table_answer, table_cancel, table_plan};
 pub use between::hand_between;
 pub use conditions::{allows, expects, expects_reply, expects_word};
 pub use gate::{AlwaysOpen, Due, Gate};
-/// Whether a history is legal: `irp_judge` judges it.
-pub use irp_judge::{Verdict, check};
 pub use labels::{UNBOUND, label_of, packet_of};
 pub use run::{Worked, run_workers, script_seats};
 pub use script_seat::ScriptSeat;

@@ -9,9 +9,9 @@ ghost use Rattle.irp_shared.specs.Answered.{AnswersSo, EachAnswered};
 ghost use Rattle.irp_shared.specs.Sharing.{IsAsBefore, IsBehind, IsFull};
 
 use crate::session::Session;
-use irp_manager::{Book, DrainNote, NotRecorded, Receipt, Seat};
+use irp_manager::{Book, NotRecorded, Receipt, Seat};
 use irp_routines::Ask;
-use irp_types::Call;
+use irp_types::{Call, DrainNote};
 use std::sync::ledger::Share;
 
 /// What lies under the lock: the session's book, and what is left of the ledger's shares, which has no part and counts

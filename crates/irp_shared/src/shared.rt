@@ -23,12 +23,14 @@ use crate::locked::Locked;
 use crate::mismatch::Mismatch;
 use crate::open_refused::OpenRefused;
 use crate::session::Session;
-use irp_manager::{Book, DrainNote, KnowsNothing, Manager, NotRecorded, Receipt, Recorded, Seat};
+use irp_manager::{Book, Manager, NotRecorded, Receipt, Recorded, Seat};
 use irp_routines::{Ask, FixedTables, Parts};
 use irp_slots::Token;
 use irp_transcript::{Form, Header, Transcript};
 use irp_types::limits::{MOST_LOCKS, MOST_SEATS};
-use irp_types::{Call, Entry, IrpRef, Limit, Reply, Row, Status, history_completes_once};
+use irp_types::{
+    Call, DrainNote, Entry, IrpRef, KnowsNothing, Limit, Reply, Row, Status, history_completes_once,
+};
 use std::alloc::Global;
 use std::sync::ledger::{Blank, Ledger, Share};
 use std::sync::{Mutex, Wait};

@@ -3,9 +3,8 @@
 ghost use Rattle.irp_remove.specs.Pairing.{IsSeatOf};
 
 use super::outcome::{NO_MEMORY, Outcome, holds, number};
-use irp_manager::DrainNote;
 use irp_remove::{AcquireRefusal, DrainRefusal, Locks, RemoveSeat, open};
-use irp_types::LockNo;
+use irp_types::{DrainNote, LockNo};
 use std::alloc::Global;
 use std::sync::Wait;
 use std::thread;

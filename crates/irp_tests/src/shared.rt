@@ -5,10 +5,10 @@ ghost use Rattle.irp_types.specs.declared.limit.Limit.TheVariants.{ThirtyTwo};
 ghost use Rattle.irp_shared.specs.Answered.{AnswersSo};
 
 use super::outcome::{NO_MEMORY, Outcome, number};
-use irp_manager::{KnowsNothing, NotRecorded};
+use irp_manager::NotRecorded;
 use irp_routines::{AnswerTable, Ask};
 use irp_shared::{Seat, Session, Shared, learn, open};
-use irp_types::Call;
+use irp_types::{Call, KnowsNothing};
 use std::alloc::Global;
 use std::marker::Brand;
 use std::sync::Wait;

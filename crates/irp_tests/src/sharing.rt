@@ -11,12 +11,11 @@ ghost use Rattle.irp_remove.specs.Pairing.{IsSeatOf};
 use super::outcome::{NO_MEMORY, Outcome, holds, number};
 use super::remove::LOCK;
 use super::stores::{READ, READS};
-use irp_manager::KnowsNothing;
 use irp_remove::{Locks, RemoveSeat};
 use irp_routines::{Ask, Dispatch, Store};
 use irp_shared::{Seat, Session, Shared, needs_token, open};
 use irp_types::{
-    Call, DeviceId, DriverId, IrpRef, Known, Owner, Party, Plan, Reply, Shown, Status,
+    Call, DeviceId, DriverId, IrpRef, Known, KnowsNothing, Owner, Party, Plan, Reply, Shown, Status,
 };
 use std::alloc::Global;
 use std::marker::Brand;

@@ -7,10 +7,9 @@ ghost use Rattle.irp_types.specs.declared.routine.Rule.TheVariants.{Watch};
 ghost use Rattle.irp_shared.specs.Answered.{AnswersSo};
 
 use super::outcome::{NO_MEMORY, Outcome, number};
-use irp_manager::KnowsNothing;
 use irp_routines::{Ask, Store};
 use irp_shared::{Seat, Session, Shared, needs_token, open};
-use irp_types::{Answer, Call, DispatchId, Reply, Rule, Shown};
+use irp_types::{Answer, Call, DispatchId, KnowsNothing, Reply, Rule, Shown};
 use std::alloc::Global;
 use std::marker::Brand;
 use std::sync::Wait;

@@ -11,6 +11,7 @@ mod limit;
 pub mod limits;
 mod location;
 mod names;
+mod note;
 mod questions;
 mod refusal;
 mod reply;
@@ -31,6 +32,7 @@ pub use history_laws::{
 pub use limit::Limit;
 pub use location::{Location, Owner, Preparation};
 pub use names::{CancelId, DeviceId, DispatchId, DriverId, IrpRef, LockNo};
+pub use note::{DrainNote, KnowsNothing};
 pub use questions::{Questions, SharedPlace};
 pub use refusal::Refusal;
 pub use reply::{Reply, Seen};

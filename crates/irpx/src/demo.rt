@@ -9,12 +9,12 @@ ghost use Rattle.irpx.specs.Streams.{output_of};
 
 use crate::not_done::{NotDone, Phase};
 use crate::writing::write;
-use irp_manager::KnowsNothing;
 use irp_routines::{Ask, Dispatch, Store};
 use irp_shared::{Seat, Session, Shared, Transcript, open_with_limit};
 use irp_transcript_writer::Out;
 use irp_types::{
-    Call, DispatchId, DriverId, Known, Limit, LockNo, Party, Plan, Reply, Shown, Status,
+    Call, DispatchId, DriverId, Known, KnowsNothing, Limit, LockNo, Party, Plan, Reply, Shown,
+    Status,
 };
 use std::alloc::{AllocError, Global};
 use std::marker::Brand;

@@ -3,7 +3,7 @@
 ghost use Rattle.std.specs.Prelude.{◌≡◌, Bool, false};
 ghost use Rattle.irp_types.specs.declared.names.LockNo.{LockNo};
 
-use irp_types::LockNo;
+use crate::names::LockNo;
 
 /// What a caller knows of remove locks, at the moment of a call.
 pub trait DrainNote {
