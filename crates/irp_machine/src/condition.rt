@@ -6,7 +6,7 @@ ghost use Rattle.irp_machine.specs.Conditions as spec;
 
 use crate::parts::Planned;
 use irp_plain::{Answered, SeatState, Told};
-use irp_script::{expects_reply, expects_word};
+use irp_steps::{expects_reply, expects_word};
 use irp_script_reader::{Condition, ExpectedAnswer};
 
 /// Whether what was answered is the answer that is expected.
