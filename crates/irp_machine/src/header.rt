@@ -7,8 +7,8 @@ ghost use Rattle.irp_steps.specs.Behaviours.{cancel_rule_of};
 ghost use Rattle.irp_script_reader.specs.Sound.{IsSound, with_one, with_all};
 ghost use Rattle.irp_machine.specs.Headers.{AreMajorsApart, AreSorted, IsHeaderOf, IsSorted, form_of};
 
-use irp_steps::cancel_rule;
 use irp_script_reader::{CompletionRoutine, ScriptForm, ScriptParts};
+use irp_steps::cancel_rule;
 use irp_transcript::{Form, Header};
 use irp_types::{CancelAnswer, CancelRule, DispatchId, Known, Row, Rule};
 use std::alloc::{AllocError, Global};

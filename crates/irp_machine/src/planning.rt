@@ -7,8 +7,8 @@ ghost use Rattle.irp_machine.specs.Planning as spec;
 
 use crate::parts::Planned;
 use irp_plain::ActPlace;
-use irp_steps::{label_of, named_by};
 use irp_script_reader::{Named, Step, StepAct};
+use irp_steps::{label_of, named_by};
 use irp_types::Row;
 use std::alloc::{AllocError, Global};
 

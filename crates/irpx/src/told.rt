@@ -10,8 +10,8 @@ ghost use Rattle.irp_script.specs.Told.{AnswersAs, CancelsAs, PlansAs};
 use irp_routines::{
     CancelClosure, CancelRoutine, CompletionClosure, Dispatch, DispatchClosure, Routine,
 };
-use irp_steps::cancel_rule;
 use irp_script_reader::CompletionRoutine;
+use irp_steps::cancel_rule;
 use irp_types::{CancelAnswer, Known, Plan};
 
 /// A completion routine with this code, on condition that the code may be called on everything that can be shown,
