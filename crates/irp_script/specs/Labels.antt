@@ -66,8 +66,8 @@ binding_of label irp = None
 -- ---- what a worker knows
 
 -- labels with packets, by the places of steps: none where a step isn't made, or none is bound or read
-abbrev pub Bindings : Type 0
-Bindings = List (Option Binding)
+abbrev pub Notes : Type 0
+Notes = List (Option Binding)
 
 -- what a worker knows of labels: the packets that they stand for by the steps of the setup and by its own, and which of
 -- them other workers bind. What its own steps bound is written down, and for a step that names a packet by a label which
@@ -75,8 +75,8 @@ Bindings = List (Option Binding)
 pub record Known : Type 0 where
   pub packets : List IrpRef
   pub apart : List Bool
-  pub written : Bindings
-  pub read : Bindings
+  pub written : Notes
+  pub read : Notes
 
 -- none of so many labels is bound, and no other worker binds one. Nothing is written down
 abbrev pub none_bound : ℕ → Known
@@ -135,11 +135,12 @@ binds_label step = is_some (label_of step.act)
 
 -- nothing was written down yet of these steps. Where there is one worker, or no step binds a label, no other worker
 -- binds one, and nothing is written down
-abbrev pub none_kept : ℕ → List Step → Bindings
+abbrev pub none_kept : ℕ → List Step → Notes
 none_kept workers steps =
     if nat_lt 1 workers && list_any binds_label steps then replicate (length steps) None else []
 
--- what one of so many workers knows when the steps begin
+-- what one of so many workers knows when the steps begin: what was known before them, and which labels other workers
+-- bind. There is room to write down what each of the steps binds and reads
 abbrev pub known_to : ℕ → ℕ → List Step → Known → Known
 known_to number workers steps known = record known {
   apart = marks_apart number workers steps (length known.packets);
@@ -150,10 +151,10 @@ known_to number workers steps known = record known {
 -- ---- what workers read of each other
 
 -- all that the steps of workers bound, and all that they read of labels that another worker binds
-abbrev pub all_written : List Known → Bindings
+abbrev pub all_written : List Known → Notes
 all_written left = flat_map (λ (one : Known). one.written) left
 
-abbrev pub all_read : List Known → Bindings
+abbrev pub all_read : List Known → Notes
 all_read left = flat_map (λ (one : Known). one.read) left
 
 -- a label stood for that packet before the steps (unbound, for the one that is never live), or a step of one of these

@@ -108,8 +108,8 @@ abbrev pub Stays : AtWork → AtWork → List WordLine → List WordLine → Typ
 Stays before after lines longer = (after ≡ before) × (longer ≡ lines)
 
 -- a call that was answered so, with what the seat's own remove seat knew of the locks
-pub record MakesCall (place : ℕ) (step : Step) (before after : AtWork) (lines longer : List WordLine) (known learnt : Known)
-    (reply : Reply) : Type 0 where
+pub record MakesCall (place : ℕ) (step : Step) (before after : AtWork) (lines longer : List WordLine)
+    (known learnt : Known) (reply : Reply) : Type 0 where
   pub called : CallsFor place step.act before.remove before.seat after.seat known learnt reply
   pub rest : after ≡ record before { seat = after.seat }
   pub silent : longer ≡ lines
