@@ -3,7 +3,7 @@
 ghost use Rattle.std.specs.Prelude.{◌≡◌, ◌<◌, IfOk, is_some, slice_get, slice_set};
 ghost use Rattle.std.specs.List.{list_any};
 ghost use Rattle.std.specs.Option.{option_flatten};
-ghost use Rattle.irp_steps.specs.Labels.{label_of, learned};
+ghost use Rattle.irp_steps.specs.Labels.{label_at, label_of, learned};
 ghost use Rattle.irp_steps.specs.StepKinds.{named_by};
 ghost use Rattle.irp_script.specs.Labels.{
   IsNamed,
@@ -24,7 +24,7 @@ ghost use Rattle.irp_script.specs.Labels.{
 
 use crate::binding::Binding;
 use irp_script_reader::{Named, Step, StepAct};
-use irp_steps::{UNBOUND, label_of, named_by, packet_in, packet_of};
+use irp_steps::{UNBOUND, label_at, label_of, named_by, packet_in, packet_of};
 use irp_types::{IrpRef, Reply};
 use std::alloc::{AllocError, Global};
 use std::marker::Model;
