@@ -1,9 +1,10 @@
 //! Devices, packets, parties and routines.
 
 ghost use Rattle.std.specs.Prelude.{◌≡◌, Some};
-ghost use Rattle.irp_names.specs.Small.{device_text, hex_text, owner_text, packet_text, party_text, routine_text, rule_word, told_if};
+ghost use Rattle.irp_names.specs.Small.{device_text, hex_text, owner_text, packet_text, party_text, routine_text, told_if};
 
-use irp_types::{DeviceId, IrpRef, Owner, Party, RoutineId, Rule};
+use irp_forms::HasName;
+use irp_types::{DeviceId, IrpRef, Owner, Party, RoutineId};
 use std::fmt;
 
 /// The slot that a label stands for where it isn't bound (this project's own format, docs/FORMATS.md).
@@ -90,19 +91,6 @@ impl fmt::Display for OwnerWords {
     }
 }
 
-/// The word of a rule, as scripts and transcripts have it.
-fn rule_word(rule: Rule) -> &'static str
-    ensures { result.now ≡ rule_word rule }
-{
-    match rule {
-        Rule::Watch => "watch",
-        Rule::Change => "change",
-        Rule::Keeper => "keeper",
-        Rule::KeepOnError => "keep_on_error",
-        Rule::Free => "free",
-    }
-}
-
 /// A completion routine, as `keeper 0`: its rule and its number within it.
 #[derive(Clone, Copy)]
 pub struct RoutineWords(pub RoutineId);
@@ -111,6 +99,6 @@ impl fmt::Display for RoutineWords {
     ghost output = { λ words. Some (routine_text words.0) };
 
     fn fmt<W: fmt::Write>(&self, f: &mut fmt::Formatter<W>) -> fmt::Result {
-        write!(f, "{} {}", rule_word(self.0.rule), self.0.no)
+        write!(f, "{} {}", self.0.rule.name(), self.0.no)
     }
 }
