@@ -1,6 +1,7 @@
 //! Devices, packets, parties and routines.
 
-ghost use Rattle.std.specs.Prelude.{◌≡◌, Some};
+ghost use Rattle.std.specs.Prelude.{◌≡◌, Some, map};
+ghost use Rattle.irp_forms.specs.Names.{rule_name, rules};
 ghost use Rattle.irp_names.specs.Small.{device_text, hex_text, owner_text, packet_text, party_text, routine_text, told_if};
 
 use irp_forms::HasName;
@@ -89,6 +90,17 @@ impl fmt::Display for OwnerWords {
             Owner::Ended => f.write_str("completed"),
         }
     }
+}
+
+/// The names of the rules of completion routines, as scripts and transcripts have them (this project's own).
+static RULE_NAMES: [&'static str; 5] = ["watch", "change", "keeper", "keep_on_error", "free"];
+
+/// The names of the rules of completion routines, as scripts and transcripts have them.
+#[tactic(auto, unfolding(irp_forms::specs::Names::rules))]
+pub fn rule_names() -> &'static [&'static str]
+    ensures { map (λ name. name.now) result.now ≡ map rule_name rules }
+{
+    &RULE_NAMES
 }
 
 /// A completion routine, as `keeper 0`: its rule and its number within it.

@@ -55,7 +55,7 @@ static ACTS: [Form; 26] = acts! {
     Allocate "allocate" "IoAllocateIrp" "Allocate";
     Free "free" "IoFreeIrp" "Free";
     Cancel "cancel" "IoCancelIrp" "Cancel";
-    Look "look" "look" "Look";
+    Look "look" "look at" "Look";
     Reuse "reuse" "IoReuseIrp" "Reuse";
     SetNext "set_next" "IoGetNextIrpStackLocation" "SetNext";
     CopyToNext "copy_to_next" "IoCopyCurrentIrpStackLocationToNext" "CopyToNext";
@@ -137,8 +137,8 @@ impl Act {
         word_at(forms(), self as usize)
     }
 
-    /// The routine of Windows that it stands for; its own word where it stands for none. SetNext stands for what a
-    /// driver does with the location that IoGetNextIrpStackLocation gives.
+    /// The routine of Windows that it stands for; where it stands for none its own word, of Look `look at`. SetNext
+    /// stands for what a driver does with the location that IoGetNextIrpStackLocation gives.
     #[tactic(auto, unfolding(crate::specs::Steps::windows_name))]
     pub fn windows_name(self) -> &'static str
         ensures { result.now ≡ spec.windows_name self }
@@ -181,5 +181,5 @@ pub fn act_of(call: Call) -> Act
 /// Each step is the first whose word it has: no two steps have one word.
 #[tactic(auto, unfolding(crate::specs::Steps::act_rows, crate::specs::Steps::act_word, crate::specs::Steps::act_named))]
 pub fn acts_are_named_apart()
-    ensures { (one : spec.Act) → spec.act_named (spec.act_word one) ≡ Some one }
+    ensures { (one : Act) → spec.act_named (spec.act_word one) ≡ Some one }
 {}
