@@ -1,7 +1,7 @@
 -- The lines go out, up to the fault of the header's line, of the entries' or of the word lines.
 use Rattle.std.proofs.lemmas.Result.{err_from_is_err_and}
-use Rattle.irp_fitting.proofs.Whole.{entries_stop, head_stops, too_many, words_end}
-use Rattle.irp_fitting.proofs.write.write_under.Goals as goal
+use Rattle.irp_fast_reader.proofs.Fitted.{entries_stop, head_stops, too_many, words_end}
+use Rattle.irp_fast_reader.proofs.write.write_under.Goals as goal
 
 pub returns-then-entries-gt-MOST_ENTRIES-clause-writes : goal.returns-then-entries-gt-MOST_ENTRIES-clause-writes
 returns-then-entries-gt-MOST_ENTRIES-clause-writes g c =

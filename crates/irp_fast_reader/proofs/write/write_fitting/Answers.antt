@@ -1,8 +1,8 @@
 -- A transcript that fits is read back; one without a header has no lines.
 use Rattle.std.proofs.Common.{Ok, rules}
-use Rattle.irp_fitting.specs.Fitting.{Writes}
-use Rattle.irp_fitting.proofs.Whole.{none_written, read_back}
-use Rattle.irp_fitting.proofs.write.write_fitting.Goals as goal
+use Rattle.irp_fast_reader.specs.Fitting.{Writes}
+use Rattle.irp_fast_reader.proofs.Fitted.{none_written, read_back}
+use Rattle.irp_fast_reader.proofs.write.write_fitting.Goals as goal
 
 pub returns-in-None-clause-writes : goal.returns-in-None-clause-writes
 returns-in-None-clause-writes g c = none_written c.args.transcript.now (g.O.Out.gone c.args.out.now) (c.is_one.ensures.bare (search rules))

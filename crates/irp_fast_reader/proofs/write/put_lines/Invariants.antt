@@ -3,8 +3,8 @@ use Rattle.std.proofs.Common.{◌≡◌, map, take}
 use Rattle.std.specs.List.{All}
 use Rattle.std.specs.Io.KnownBytes.{Appends}
 use Rattle.irp_transcript_writer.specs.Lines.{text_of}
-use Rattle.irp_fitting.specs.Fitting.{LineFits}
-use Rattle.irp_fitting.proofs.write.put_lines.Given as goal
+use Rattle.irp_fast_reader.specs.Fits.{LineFits}
+use Rattle.irp_fast_reader.proofs.write.put_lines.Given as goal
 
 abbrev pub invariant-loop-place : goal.invariant-loop-place
 invariant-loop-place g l = record {

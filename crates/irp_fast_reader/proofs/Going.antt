@@ -9,9 +9,10 @@ use Rattle.irp_transcript_writer.specs.Json.{line_text}
 use Rattle.irp_transcript_writer.specs.Lines.{text_of}
 use Rattle.irp_transcript_writer.specs.Puts.{told, Sent, Stopped}
 use Rattle.irp_transcript_writer.proofs.Puts.{appends_kept, sent_next, sent_none, stopped_next}
-use Rattle.irp_fitting.specs.Fitting.{Begins, Bytes, Counts, LineFits, PutsLine, PutsLines}
-use Rattle.irp_fitting.specs.declared.unfit.{Unfit.Unfit, Unwritten.Unwritten}
-use Rattle.irp_fitting.specs.declared.unfit.Unwritten.TheVariants as unwritten
+use Rattle.irp_fast_reader.specs.Fits.{LineFits}
+use Rattle.irp_fast_reader.specs.Fitting.{Begins, Bytes, Counts, PutsLine, PutsLines}
+use Rattle.irp_fast_reader.specs.declared.unfit.{Unfit.Unfit, Unwritten.Unwritten}
+use Rattle.irp_fast_reader.specs.declared.unfit.Unwritten.TheVariants as unwritten
 
 -- ---- what went out
 

@@ -1,7 +1,6 @@
 -- A transcript's lines: the header's, the entries' and the word lines, of which all fit and go out, or the first ones.
 use Rattle.std.proofs.Common.{◌≡◌, ◌+◌, ◌≤◌, ◌<◌, ℕ, List, [], map, length, take, Some, Result, Ok, Err, refl, subst, arith}
 use Rattle.std.proofs.lemmas.Grind.{common_steps}
-use Rattle.std.proofs.lemmas.List.Elements.{All-weaker}
 use Rattle.std.specs.Prelude.{OnOk}
 use Rattle.std.specs.List.{All}
 use Rattle.std.specs.Io.KnownBytes.{Appends}
@@ -12,39 +11,18 @@ use Rattle.irp_transcript_reader.specs.Reading.{most_entries}
 use Rattle.irp_transcript_writer.specs.Json.{line_text}
 use Rattle.irp_transcript_writer.specs.Lines.{entry_json, header_json, header_lines, lines, text_of, word_json}
 use Rattle.irp_transcript_writer.proofs.Puts.{all_sent, appends_kept, first_stopped, second_stopped, text_one, third_stopped}
-use Rattle.irp_fast_reader.specs.Fits.{EntryUnder, IsShort, WordUnder}
+use Rattle.irp_fast_reader.specs.Fits.{EntryUnder, IsShort, LineFits, WordUnder}
 use Rattle.irp_fast_reader.specs.Laws.{WrittenIsRead}
-use Rattle.irp_fitting.specs.Fitting.{AnyHeader, Begins, Bytes, EntryTold, IsFirst, IsReadBack, LineFits, PutsLine, PutsLines, StopsAt, WordTold, Writes}
-use Rattle.irp_fitting.specs.declared.unfit.Unwritten.{Unwritten}
-use Rattle.irp_fitting.specs.declared.unfit.Unfit.TheVariants.{Entry as EntryAt, Header as HeadLine, TooMany, Word as WordAt}
-use Rattle.irp_fitting.specs.declared.unfit.Unwritten.TheVariants as unwritten
-use Rattle.irp_fitting.proofs.Going.{begins, nothing, sent, stopped}
+use Rattle.irp_fast_reader.specs.Fitting.{AnyHeader, Begins, Bytes, IsReadBack, PutsLine, PutsLines, StopsAt, Writes}
+use Rattle.irp_fast_reader.specs.declared.unfit.Unwritten.{Unwritten}
+use Rattle.irp_fast_reader.specs.declared.unfit.Unfit.TheVariants.{Entry as EntryAt, Header as HeadLine, TooMany, Word as WordAt}
+use Rattle.irp_fast_reader.specs.declared.unfit.Unwritten.TheVariants as unwritten
+use Rattle.irp_fast_reader.proofs.Going.{begins, nothing, sent, stopped}
 
 abbrev whole : Header → List Entry → List WordLine → TranscriptValue
 whole header entries words = record { header = Some header; entries = entries; words = words }
 
 -- ---- which fit
-
-entry_under : (header : Header) (entry : Entry) → LineFits (EntryTold header) entry_json entry → EntryUnder header entry
-entry_under header entry fits = record { fits = fits.0.fits; seated = fits.0.seated; of_form = fits.0.of_form; short = fits.1 }
-
-under_entry : (header : Header) (entry : Entry) → EntryUnder header entry → LineFits (EntryTold header) entry_json entry
-under_entry header entry under = (record { fits = under.fits; seated = under.seated; of_form = under.of_form }, under.short)
-
-word_under : (header : Header) (line : WordLine) → LineFits (WordTold header) word_json line → WordUnder header line
-word_under header line fits =
-    record { fits = fits.0.fits; seated = fits.0.seated; hands = fits.0.hands; of_form = fits.0.of_form; short = fits.1 }
-
-under_word : (header : Header) (line : WordLine) → WordUnder header line → LineFits (WordTold header) word_json line
-under_word header line under =
-    (record { fits = under.fits; seated = under.seated; hands = under.hands; of_form = under.of_form }, under.short)
-
-first_so : {T : Type 0} (P Q : T → Type 0) (place : ℕ) (values : List T) → ((value : T) → P value → Q value) → ((value : T) → Q value → P value) → IsFirst P place values → IsFirst Q place values
-first_so P Q place values on back first = record {
-  within = first.within;
-  before = All-weaker P Q on (take place values) first.before;
-  broken = λ all. first.broken (All-weaker Q P back (take (place + 1) values) all);
-}
 
 taken_few : {T : Type 0} (place most : ℕ) (values : List T) → length values ≤ most → length (take place values) ≤ most
 taken_few place most values few = grind (arith, common_steps)
@@ -91,38 +69,31 @@ head_stops header entries words old new unwritten.NoMemory puts = head_begins he
 
 pub entries_stop : (header : Header) (entries : List Entry) (words : List WordLine) (old one new : Bytes) (fault : Unwritten)
     → IsShort (header_json header) → length entries ≤ most_entries → Appends old one (line_text (header_json header))
-    → PutsLines (EntryTold header) entry_json EntryAt entries one new (Err fault) → Writes (whole header entries words) old new (Err fault)
+    → PutsLines (EntryUnder header) entry_json EntryAt entries one new (Err fault) → Writes (whole header entries words) old new (Err fault)
 entries_stop header entries words old one new (unwritten.Unfit part) short few head puts =
     rw puts.1
-    (let first = first_so _ _ puts.0 entries (entry_under header) (under_entry header) puts.2 in
-    record {
-      fits = record { short = short; few = taken_few puts.0 most_entries entries few; entries = first.before; words = λ k d lt. absurd (omega arith) };
+    (record {
+      fits = record { short = short; few = taken_few puts.0 most_entries entries few; entries = puts.2.before; words = λ k d lt. absurd (omega arith) };
       gone = all_gone header (take puts.0 entries) [] old one new new head puts.3 (nothing new);
-      unfit = first;
+      unfit = puts.2;
     })
 entries_stop header entries words old one new unwritten.Output short few head puts = entries_begin header entries words old one new head puts
 entries_stop header entries words old one new unwritten.NoMemory short few head puts = entries_begin header entries words old one new head puts
 
 pub words_end : (header : Header) (entries : List Entry) (words : List WordLine) (old one two new : Bytes) (result : Result (Unit {0}) Unwritten)
     → IsShort (header_json header) → length entries ≤ most_entries → Appends old one (line_text (header_json header))
-    → All (LineFits (EntryTold header) entry_json) entries → Appends one two (text_of (map entry_json entries))
-    → PutsLines (WordTold header) word_json WordAt words two new result → Writes (whole header entries words) old new result
+    → All (LineFits (EntryUnder header) entry_json) entries → Appends one two (text_of (map entry_json entries))
+    → PutsLines (WordUnder header) word_json WordAt words two new result → Writes (whole header entries words) old new result
 words_end header entries words old one two new (Ok done) short few head fit first puts = (
-  record {
-    short = short;
-    few = few;
-    entries = All-weaker _ _ (entry_under header) entries fit;
-    words = All-weaker _ _ (word_under header) words puts.0;
-  },
+  record { short = short; few = few; entries = fit; words = puts.0 },
   all_gone header entries words old one two new head first puts.1,
 )
 words_end header entries words old one two new (Err (unwritten.Unfit part)) short few head fit first puts =
     rw puts.1
-    (let last = first_so _ _ puts.0 words (word_under header) (under_word header) puts.2 in
-    record {
-      fits = record { short = short; few = few; entries = All-weaker _ _ (entry_under header) entries fit; words = last.before };
+    (record {
+      fits = record { short = short; few = few; entries = fit; words = puts.2.before };
       gone = all_gone header entries (take puts.0 words) old one two new head first puts.3;
-      unfit = last;
+      unfit = puts.2;
     })
 words_end header entries words old one two new (Err unwritten.Output) short few head fit first puts = words_begin header entries words old one two new head first puts
 words_end header entries words old one two new (Err unwritten.NoMemory) short few head fit first puts = words_begin header entries words old one two new head first puts

@@ -3,14 +3,15 @@
 ghost use Rattle.std.specs.Prelude.{ℕ, ◌≡◌, ◌↔◌, true};
 ghost use Rattle.irp_transcript.specs.declared.header.Header.{Header};
 ghost use Rattle.irp_transcript_reader.specs.Reading.{hands_within};
-ghost use Rattle.irp_fitting.specs.declared.unfit.Unfit.{Unfit};
-ghost use Rattle.irp_fitting.specs.declared.unfit.Unfit.TheVariants as part;
-ghost use Rattle.irp_fitting.specs.Fitting.{AnyHeader, EntryTold, WordTold};
+ghost use Rattle.irp_fast_reader.specs.declared.unfit.Unfit.{Unfit};
+ghost use Rattle.irp_fast_reader.specs.declared.unfit.Unfit.TheVariants as part;
+ghost use Rattle.irp_fast_reader.specs.Fits.{EntryUnder, WordUnder};
+ghost use Rattle.irp_fast_reader.specs.Fitting.{AnyHeader};
 
 use crate::fits::{fits, word_fits};
-use crate::forms::{has_entry, has_word};
 use crate::unfit::Unfit;
 use irp_transcript::{Act, Header, WordLine};
+use irp_transcript_reader::{has_entry, has_word};
 use irp_transcript_writer::Written;
 use irp_types::Entry;
 
@@ -46,7 +47,7 @@ impl Fitting for Header {
 }
 
 impl Fitting for Entry {
-    ghost told = { EntryTold };
+    ghost told = { EntryUnder };
 
     ghost unfit = { λ place. part.Entry place };
 
@@ -70,7 +71,7 @@ fn hands_within(seats: u32, act: Act) -> bool
 }
 
 impl Fitting for WordLine {
-    ghost told = { WordTold };
+    ghost told = { WordUnder };
 
     ghost unfit = { λ place. part.Word place };
 

@@ -2,9 +2,9 @@
 use Rattle.std.proofs.Common.{◌∙◌, arith, refl, subst}
 use Rattle.std.proofs.lemmas.Result.{err_from_is_err_and}
 use Rattle.std.proofs.lemmas.List.Elements.{All-more}
-use Rattle.irp_fitting.specs.Fitting.{LineFits}
-use Rattle.irp_fitting.proofs.Going.{counts_on, gone_next, nothing, stops_at}
-use Rattle.irp_fitting.proofs.write.put_lines.Goals as goal
+use Rattle.irp_fast_reader.specs.Fits.{LineFits}
+use Rattle.irp_fast_reader.proofs.Going.{counts_on, gone_next, nothing, stops_at}
+use Rattle.irp_fast_reader.proofs.write.put_lines.Goals as goal
 
 pub loop-place-init : goal.loop-place-init
 loop-place-init g c = record { fits = λ k d lt. absurd (omega arith); gone = nothing (g.O.Out.gone c.args.out.now); calm = refl }

@@ -1,19 +1,17 @@
 //! Writing transcripts that fit. Source: this project's own format (docs/FORMATS.md).
 
 ghost use Rattle.std.specs.Prelude.{OnOk, Some};
-ghost use Rattle.irp_fitting.specs.Fitting.{Counts, IsReadBack, PutsLine, PutsLines, Writes};
+ghost use Rattle.irp_fast_reader.specs.Fitting.{Counts, IsReadBack, PutsLine, PutsLines, Writes};
 
 use crate::fitting::Fitting;
+use crate::round_trip::written_is_read;
 use crate::unfit::{Unfit, Unwritten};
-use irp_fast_reader::written_is_read;
 use irp_transcript::{Header, Transcript, WordLine};
 use irp_transcript_reader::MOST_BYTES;
 use irp_transcript_writer::{Out, put_all};
 use irp_types::Entry;
+use irp_types::limits::MOST_ENTRIES;
 use std::alloc::Global;
-
-/// As many entries as a transcript has.
-const MOST_ENTRIES: usize = 1_000_000;
 
 /// Puts the line of a value that fits under the header. The line is made in the buffer.
 fn put_line<O: Out, T: Fitting>(

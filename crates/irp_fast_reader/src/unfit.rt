@@ -18,7 +18,7 @@ pub enum Unfit {
 /// The part, as it stands in a message.
 impl fmt::Display for Unfit {
     ghost use Rattle.std.specs.Prelude.{Some};
-    ghost use Rattle.irp_fitting.specs.Fitting.{name_of};
+    ghost use Rattle.irp_fast_reader.specs.Fitting.{name_of};
 
     ghost output = { λ part. Some (name_of part) };
 

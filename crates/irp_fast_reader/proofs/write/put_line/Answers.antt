@@ -5,8 +5,8 @@ use Rattle.std.specs.Io.KnownBytes.{Appends}
 use Rattle.serde_json.specs.Written.{compact_text}
 use Rattle.irp_transcript_writer.specs.Json.{line_text}
 use Rattle.irp_transcript_writer.proofs.Puts.{stopped_at, stopped_first}
-use Rattle.irp_fitting.proofs.Going.{begins, line_is}
-use Rattle.irp_fitting.proofs.write.put_line.Goals as goal
+use Rattle.irp_fast_reader.proofs.Going.{begins, line_is}
+use Rattle.irp_fast_reader.proofs.write.put_line.Goals as goal
 
 pub returns-in_default-clause-puts : goal.returns-in_default-clause-puts
 returns-in_default-clause-puts g c = begins _ 0 _ _ _ (stopped_first (g.T.Written.json c.args.value.now) 0 (g.O.Out.gone c.args.out.now) (lit< tt))

@@ -7,15 +7,14 @@ use Rattle.serde_json.specs.Data.{Data}
 use Rattle.irp_types.specs.declared.entry.Entry.{Entry}
 use Rattle.irp_transcript.specs.Transcripts.{TranscriptValue, no_lines}
 use Rattle.irp_transcript.specs.declared.{header.Header.Header, word_line.WordLine.WordLine}
-use Rattle.irp_transcript_reader.specs.Forms.{has_entry, has_word}
-use Rattle.irp_transcript_reader.specs.Reading.{ReadsFrom, cut, hands_within, most_entries}
+use Rattle.irp_transcript_reader.specs.Reading.{ReadsFrom, cut, most_entries}
 use Rattle.irp_transcript_writer.specs.Json.{line_text}
-use Rattle.irp_transcript_writer.specs.Lines.{header_json, lines, text_of}
+use Rattle.irp_transcript_writer.specs.Lines.{entry_json, header_json, lines, text_of, word_json}
 use Rattle.irp_transcript_writer.specs.Out.{risen}
-use Rattle.irp_fast_reader.specs.Fits.{EntryFits, EntryUnder, Fits, IsShort, WordFits, WordUnder}
-use Rattle.irp_fitting.specs.declared.unfit.{Unfit.Unfit, Unwritten.Unwritten}
-use Rattle.irp_fitting.specs.declared.unfit.Unfit.TheVariants as part
-use Rattle.irp_fitting.specs.declared.unfit.Unwritten.TheVariants as unwritten
+use Rattle.irp_fast_reader.specs.Fits.{EntryUnder, Fits, IsShort, LineFits, WordUnder}
+use Rattle.irp_fast_reader.specs.declared.unfit.{Unfit.Unfit, Unwritten.Unwritten}
+use Rattle.irp_fast_reader.specs.declared.unfit.Unfit.TheVariants as part
+use Rattle.irp_fast_reader.specs.declared.unfit.Unwritten.TheVariants as unwritten
 
 -- a part, as it stands in a message
 abbrev pub name_of : Unfit → List ℕ
@@ -28,28 +27,9 @@ name_of (part.Word place) = codes "word line " ++ decimal place
 abbrev pub Bytes : Type 0
 Bytes = Option (List ℕ)
 
--- ---- a line
-
--- what must hold of a line's value under the header, beside that the line is short: nothing more of the header itself
+-- what must hold of the header under itself, beside that its line is short: nothing more
 abbrev pub AnyHeader : Header → Header → Type 0
 AnyHeader header value = ⊤
-
--- an entry fits, its seat is one that the header counts, and its form is the header's
-pub record EntryTold (header : Header) (entry : Entry) : Type 0 where
-  pub fits : EntryFits entry
-  pub seated : entry.seat < header.seats
-  pub of_form : has_entry header.form entry ≡ true
-
--- the same of a word line, and of the seat that it hands to
-pub record WordTold (header : Header) (line : WordLine) : Type 0 where
-  pub fits : WordFits line
-  pub seated : line.seat < header.seats
-  pub hands : hands_within header.seats line.act ≡ true
-  pub of_form : has_word header.form line ≡ true
-
--- this holds of the value, and its line is short
-abbrev pub LineFits : {T : Type 0} → (T → Type 0) → (T → Data) → T → Type 0
-LineFits Told json value = Told value × IsShort (json value)
 
 -- ---- what a call that writes did
 
@@ -69,10 +49,10 @@ Counts old new other = new ≡ old
 -- what a call that puts the line of a value did: the line went out, or this part doesn't fit, or a beginning went out
 abbrev pub PutsLine : {T : Type 0} → (T → Type 0) → (T → Data) → Unfit → T
     → Bytes → Bytes → Result (Unit {0}) Unwritten → Type 0
-PutsLine Told json unfit value old new (Ok done) = LineFits Told json value × Appends old new (line_text (json value))
-PutsLine Told json unfit value old new (Err (unwritten.Unfit told)) =
-    (told ≡ unfit) × (LineFits Told json value → ⊥) × Keeps old new
-PutsLine Told json unfit value old new (Err other) = Begins (line_text (json value)) old new
+PutsLine Holds json unfit value old new (Ok done) = LineFits Holds json value × Appends old new (line_text (json value))
+PutsLine Holds json unfit value old new (Err (unwritten.Unfit told)) =
+    (told ≡ unfit) × (LineFits Holds json value → ⊥) × Keeps old new
+PutsLine Holds json unfit value old new (Err other) = Begins (line_text (json value)) old new
 
 -- the first of these that doesn't fit stands at this place
 pub record IsFirst {T : Type 0} (Good : T → Type 0) (place : ℕ) (values : List T) : Type 0 where
@@ -84,12 +64,12 @@ pub record IsFirst {T : Type 0} (Good : T → Type 0) (place : ℕ) (values : Li
 -- beginning
 abbrev pub PutsLines : {T : Type 0} → (T → Type 0) → (T → Data) → (ℕ → Unfit) → List T
     → Bytes → Bytes → Result (Unit {0}) Unwritten → Type 0
-PutsLines Told json unfit values old new (Ok done) =
-    All (LineFits Told json) values × Appends old new (text_of (map json values))
-PutsLines Told json unfit values old new (Err (unwritten.Unfit told)) =
-    (place : ℕ) × (told ≡ unfit place) × IsFirst (LineFits Told json) place values
+PutsLines Holds json unfit values old new (Ok done) =
+    All (LineFits Holds json) values × Appends old new (text_of (map json values))
+PutsLines Holds json unfit values old new (Err (unwritten.Unfit told)) =
+    (place : ℕ) × (told ≡ unfit place) × IsFirst (LineFits Holds json) place values
     × Appends old new (text_of (map json (take place values)))
-PutsLines Told json unfit values old new (Err other) = Begins (text_of (map json values)) old new
+PutsLines Holds json unfit values old new (Err other) = Begins (text_of (map json values)) old new
 
 -- ---- a transcript
 
@@ -104,8 +84,8 @@ front (part.Word place) transcript = record transcript { words = take place tran
 abbrev pub IsUnfitUnder : Unfit → TranscriptValue → Header → Type 0
 IsUnfitUnder part.TooMany transcript header = most_entries < length transcript.entries
 IsUnfitUnder part.Header transcript header = IsShort (header_json header) → ⊥
-IsUnfitUnder (part.Entry place) transcript header = IsFirst (EntryUnder header) place transcript.entries
-IsUnfitUnder (part.Word place) transcript header = IsFirst (WordUnder header) place transcript.words
+IsUnfitUnder (part.Entry place) transcript header = IsFirst (LineFits (EntryUnder header) entry_json) place transcript.entries
+IsUnfitUnder (part.Word place) transcript header = IsFirst (LineFits (WordUnder header) word_json) place transcript.words
 
 -- exactly what stands before this part went out, and fits; the part doesn't fit
 pub record StopsAt (transcript : TranscriptValue) (old new : Bytes) (told : Unfit) : Type 0 where
