@@ -2,7 +2,6 @@
 //!
 //! - [`read_transcript`] reads bytes as a transcript, or answers the first line that is refused.
 //! - [`Reader`] reads a transcript, too, and is fed its bytes block after block; it gives each line as it ends.
-//! - [`Ahead`] is what several threads read of a block before its lines' turn; a [`Reader`] is quicker with it.
 //! - [`write_transcript`] writes a transcript, or answers how much of it went out.
 //!
 //! What was written is read again as the same: that is a law of the form of transcripts. So an entry of a line is
@@ -10,7 +9,6 @@
 //! entry (`entry_is_read`). Nothing is promised of a guess. Any other line is read as `irp_transcript_reader` does.
 #![tactic(auto)]
 
-mod ahead;
 mod fits;
 mod guess;
 mod guessed_calls;
@@ -23,7 +21,6 @@ mod reader;
 mod round_trip;
 mod scan;
 
-pub use ahead::{Ahead, count_threads};
 pub use irp_transcript_reader::ReadFault;
 pub use irp_transcript_writer::{Cause, Failed, Out, WriteFault, WriterOut, write_transcript};
 pub use line::Line;
