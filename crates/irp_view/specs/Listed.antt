@@ -39,6 +39,9 @@ pub record Aim : Type 0 where
   pub span : Option Span
   pub sent : List ℕ
 
+abbrev pub aim_of : Option IrpRef → Option Span → List ℕ → Aim
+aim_of only span sent = record { only = only; span = span; sent = sent }
+
 -- the lines of this transcript were gone through, with this choice
 pub record HasGathered (gathering : Gathering) (aim : Aim) (transcript : TranscriptValue) : Type 0 where
   pub only : gathering.wanted.choice.only ≡ aim.only
@@ -77,7 +80,7 @@ pub record AreShown (reader : Reader) (only : Option IrpRef) (span : Option Span
   pub sent : List ℕ
   pub written : Written sent old new before after
   pub none : gathering.shown.text.items ≡ []
-  pub gathered : AreGathered reader gathering (record { only = only; span = span; sent = sent }) text
+  pub gathered : AreGathered reader gathering (aim_of only span sent) text
 
 -- what shows the lines before the one that is refused went out
 pub record AreShownBefore (line : Option ℕ) (only : Option IrpRef) (span : Option Span) (old new : Bytes)

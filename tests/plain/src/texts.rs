@@ -1,16 +1,11 @@
 //! Transcripts that are read whole, and that are judged piece by piece.
 
 use crate::judge::{blank_entry, Judge, Line, Reader, Verdict};
-use crate::reader::read_entry;
 use crate::types::{Entry, Header};
 use std::io::{self, Read};
-use std::thread;
 
 /// How many bytes are read at once.
 const PIECE: usize = 262_144;
-
-/// How many lines are read ahead at once.
-const BLOCK_LINES: usize = 8_192;
 
 /// The header and the entries of a text; none where a line is refused, or the text has no line.
 pub fn read_transcript(text: &[u8]) -> Option<(Header, Vec<Entry>)> {

@@ -15,7 +15,7 @@ returns-then-count-eq0 g c = λ old text so_far.
     let none : c.in-Ok.count ≡ 0 = grind arith in
     let ended : IsSoFar old (g.R.Read.remaining c.take_block.new.reader) c.loop-count.left (text ++ inv.0) =
     so_far_end old (g.R.Read.remaining c.loop-count.input) (g.R.Read.remaining c.take_block.new.reader) c.loop-count.left c.in-Ok.count (text ++ inv.0) c.take_block.new.buffer none inv.1 c.in-Ok.ensures.bytes in
-    drained _ old (g.R.Read.remaining c.take_block.new.reader) c.loop-count.left text inv.0 ended (c.in-Ok.ensures.end none))
+    drained c.loop-count.has_newline old (g.R.Read.remaining c.take_block.new.reader) c.loop-count.left text inv.0 ended (c.in-Ok.ensures.end none))
 
 pub loop-count-preserved : goal.loop-count-preserved
 loop-count-preserved g c = record {
