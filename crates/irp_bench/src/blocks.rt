@@ -50,11 +50,7 @@ fn verdict_on(alloc: Global, header: &Header, text: &[u8]) -> Result<Verdict, No
 }
 
 /// Times the reading and judging of a sample's text. `NotLegal` unless it is legal, with all of its entries.
-pub fn read_and_judge<R: Clock>(
-    rt: &R,
-    alloc: Global,
-    sample: &Sample,
-) -> Result<Done, NotTimed> {
+pub fn read_and_judge<R: Clock>(rt: &R, alloc: Global, sample: &Sample) -> Result<Done, NotTimed> {
     sample.transcript.is_one();
     let Some(header) = sample.transcript.header() else {
         return Err(NotTimed::Failed);

@@ -111,7 +111,9 @@ fn judge_line(judge: &mut Judge, kept: &mut Kept, line: Line) -> Result<(), Allo
 /// Takes the lines of a transcript: has the judge judge its entries, and keeps what is kept of lines.
 #[derive(Drop)]
 struct Judging<'a> {
+    /// The judge of its history.
     judge: Judge<'a>,
+    /// What is kept.
     kept: Kept,
 }
 

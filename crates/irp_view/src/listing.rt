@@ -23,7 +23,9 @@ use crate::reading::{Unread, unread_behind};
 use crate::refusal::Before;
 use crate::showing::{Shown, Wanted};
 use irp_fast_reader::{Line, Reader};
-use irp_feed::{BLOCK, LineSink, RefusedLine, Start, Unfed, feed_block, read_header, refuse, take_block};
+use irp_feed::{
+    BLOCK, LineSink, RefusedLine, Start, Unfed, feed_block, read_header, refuse, take_block,
+};
 use irp_listing::{Choice, Unwritten, send};
 use irp_transcript::Header;
 use irp_transcript_writer::Out;
@@ -42,7 +44,7 @@ pub enum Unshown {
 
 /// Why what shows some lines isn't sent.
 #[derive(Drop)]
-enum Unsent {
+pub enum Unsent {
     /// They aren't read.
     Unfed(Unfed),
     /// It wasn't written.
@@ -51,8 +53,10 @@ enum Unsent {
 
 /// Takes the lines of a transcript, and gathers what stands for those that are wanted.
 #[derive(Drop)]
-struct Gathering {
+pub struct Gathering {
+    /// What is wanted.
     wanted: Wanted,
+    /// What is gathered of it.
     shown: Shown,
 }
 
@@ -216,7 +220,15 @@ pub fn show_transcript<R: Read, O: Out>(
         wanted: Wanted { choice, span },
         shown: Shown::new(alloc),
     };
-    match show_rest(alloc, input, output, &mut buffer, &mut reader, &start, &mut gathering) {
+    match show_rest(
+        alloc,
+        input,
+        output,
+        &mut buffer,
+        &mut reader,
+        &start,
+        &mut gathering,
+    ) {
         Ok(()) => Ok(()),
         Err(Unsent::Unwritten(fault)) => Err(Unshown::Unwritten(fault)),
         Err(Unsent::Unfed(unfed)) => {
