@@ -1,8 +1,7 @@
-//! The texts of transcripts, read and written.
+//! The texts of transcripts, read fast.
 //!
 //! - [`read_transcript`] reads bytes as a transcript, or answers the first line that is refused.
 //! - [`Reader`] reads a transcript, too, and is fed its bytes block after block; it gives each line as it ends.
-//! - [`write_transcript`] writes a transcript, or answers how much of it went out.
 //!
 //! What was written is read again as the same: that is a law of the form of transcripts. So an entry of a line is
 //! guessed, and the guess is written: where what was written is the line, and the entry fits, the line is read as that
@@ -22,7 +21,6 @@ mod round_trip;
 mod scan;
 
 pub use irp_transcript_reader::ReadFault;
-pub use irp_transcript_writer::{Cause, Failed, Out, WriteFault, WriterOut, write_transcript};
 pub use line::Line;
 pub use read::read_transcript;
 pub use reader::Reader;
