@@ -1,9 +1,7 @@
-//! The texts of transcripts, read and written.
+//! The texts of transcripts, read fast.
 //!
 //! - [`read_transcript`] reads bytes as a transcript, or answers the first line that is refused.
 //! - [`Reader`] reads a transcript, too, and is fed its bytes block after block; it gives each line as it ends.
-//! - [`Ahead`] is what several threads read of a block before its lines' turn; a [`Reader`] is quicker with it.
-//! - [`write_transcript`] writes a transcript, or answers how much of it went out.
 //! - [`write_fitting`] writes a transcript while its lines fit, so that what went out is read again as the same.
 //!
 //! What was written is read again as the same: that is a law of the form of transcripts. So an entry of a line is
@@ -11,7 +9,6 @@
 //! entry (`entry_is_read`). Nothing is promised of a guess. Any other line is read as `irp_transcript_reader` does.
 #![tactic(auto)]
 
-mod ahead;
 mod fits;
 mod fitting;
 mod guess;
@@ -27,9 +24,7 @@ mod scan;
 mod unfit;
 mod write;
 
-pub use ahead::{Ahead, count_threads};
 pub use irp_transcript_reader::ReadFault;
-pub use irp_transcript_writer::{Cause, Failed, Out, WriteFault, WriterOut, write_transcript};
 pub use line::Line;
 pub use read::read_transcript;
 pub use reader::Reader;

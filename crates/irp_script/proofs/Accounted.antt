@@ -14,7 +14,7 @@ use Rattle.irp_script.specs.Outcomes.{Outcome, Made, Ways, is_own_placed, outcom
 use Rattle.irp_script.specs.Pairs.{Pair}
 use Rattle.irp_script.specs.Words.{WordStep, told_by, word_steps}
 use Rattle.irp_script.specs.declared.stop.Stop.{Stop}
-use Rattle.irp_script.specs.Conditions.{Heard, none_heard}
+use Rattle.irp_steps.specs.Conditions.{Heard, none_heard}
 use Rattle.irp_script.specs.Labels.{Known, known_to, none_bound}
 use Rattle.irp_script.specs.Working.{AtWork, IsOwn, Left, MakesOwn, RunsScript, WorkAfter, WorkApart, Working, working}
 use Rattle.irp_script.proofs.Chains.{chained, rising}

@@ -12,14 +12,14 @@ use Rattle.irp_transcript.specs.declared.word_line.WordLine.{WordLine}
 use mathlib.Core.Bool.{true≢false}
 use Rattle.irp_script_reader.specs.declared.act.Step.{Step}
 use Rattle.irp_script_reader.specs.declared.condition.Condition.{Condition}
-use Rattle.irp_script.specs.declared.step_kind.StepKind.{StepKind}
-use Rattle.irp_script.specs.declared.step_kind.StepKind.TheVariants.{Calls, OnLock, Hands, OnSlot, Finishes}
+use Rattle.irp_steps.specs.declared.step_kind.StepKind.{StepKind}
+use Rattle.irp_steps.specs.declared.step_kind.StepKind.TheVariants.{Calls, OnLock, Hands, OnSlot, Finishes}
 use Rattle.irp_script.specs.Accounts.{calls_at, pair_at}
-use Rattle.irp_script.specs.Conditions.{Heard, holds}
+use Rattle.irp_steps.specs.Conditions.{Heard, holds}
 use Rattle.irp_script.specs.Labels.{Known}
-use Rattle.irp_script.specs.declared.answered.Answered.{Answered}
-use Rattle.irp_script.specs.declared.answered.Answered.TheVariants as answer
-use Rattle.irp_script.specs.StepKinds.{kind_of}
+use Rattle.irp_steps.specs.declared.answered.Answered.{Answered}
+use Rattle.irp_steps.specs.declared.answered.Answered.TheVariants as answer
+use Rattle.irp_steps.specs.StepKinds.{kind_of}
 use Rattle.irp_script.specs.Made.{NoneTwice, SeatCalls, calls_in, nameless, once_made}
 use Rattle.irp_script.specs.Outcomes.{Outcome, Way, Made, Tokenless, Passed, nameless_call, told_act, way_of}
 use Rattle.irp_script.specs.Words.{told_by, word_step, word_step_of}

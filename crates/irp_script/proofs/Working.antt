@@ -22,15 +22,15 @@ use Rattle.irp_slots.specs.declared.answers.Token.{Token}
 use Rattle.irp_shared.specs.Sharing.{Called, IsAsBefore, given_back}
 use Rattle.irp_transcript.specs.declared.word_line.WordLine.{WordLine}
 use Rattle.irp_script_reader.specs.declared.act.Step.{Step}
-use Rattle.irp_script.specs.declared.step_kind.StepKind.{StepKind}
-use Rattle.irp_script.specs.declared.step_kind.StepKind.TheVariants.{Calls, OnLock, Hands, OnSlot, Finishes}
+use Rattle.irp_steps.specs.declared.step_kind.StepKind.{StepKind}
+use Rattle.irp_steps.specs.declared.step_kind.StepKind.TheVariants.{Calls, OnLock, Hands, OnSlot, Finishes}
 use Rattle.irp_script.specs.declared.taken.Taken.{Taken}
 use Rattle.irp_script.specs.AtSlots.{AtSlots, fresh}
 use Rattle.irp_script.specs.Calling.{CallsFor, found_drained}
-use Rattle.irp_script.specs.Conditions.{Heard, none_heard, with_answer}
-use Rattle.irp_script.specs.declared.answered.Answered.{Answered}
+use Rattle.irp_steps.specs.Conditions.{Heard, none_heard, with_answer}
+use Rattle.irp_steps.specs.declared.answered.Answered.{Answered}
 use Rattle.irp_script.specs.Labels.{IsNamed, Known, known_to}
-use Rattle.irp_script.specs.StepKinds.{kind_of}
+use Rattle.irp_steps.specs.StepKinds.{kind_of}
 use Rattle.irp_script.specs.Stops.{IsUnmade, IsUnrecorded}
 use Rattle.irp_script.specs.declared.stop.Stop.{Stop}
 use Rattle.irp_script.specs.declared.stop.StopReason.{StopReason}

@@ -11,7 +11,7 @@ use Rattle.irp_remove.specs.Seats.{Holder}
 use Rattle.irp_script_reader.specs.declared.act.StepAct.{StepAct}
 use Rattle.irp_shared.specs.Sharing.{Called}
 use Rattle.irp_script.specs.Labels.{IsNamed, Known, known_behind}
-use Rattle.irp_script.specs.StepKinds.{call_of}
+use Rattle.irp_steps.specs.StepKinds.{call_of}
 
 -- which locks a remove seat found drained
 abbrev pub found_drained : Holder → LockNo → Bool

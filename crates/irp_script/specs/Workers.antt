@@ -6,7 +6,7 @@ use Rattle.irp_transcript.specs.declared.word_line.WordLine.{WordLine}
 use Rattle.irp_script_reader.specs.declared.act.Step.{Step}
 use Rattle.irp_script.specs.declared.script_seat.ScriptSeat.{ScriptSeat}
 use Rattle.irp_script.specs.declared.worker.Worker.{Worker}
-use Rattle.irp_script.specs.Conditions.{none_heard}
+use Rattle.irp_steps.specs.Conditions.{none_heard}
 use Rattle.irp_script.specs.Labels.{Known, known_to}
 use Rattle.irp_script.specs.Seats.{number_of, seats_at_work}
 use Rattle.irp_script.specs.Working.{MakesOwn, Working, working}

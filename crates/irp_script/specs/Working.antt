@@ -50,10 +50,10 @@ use Rattle.irp_transcript.specs.declared.word_line.WordLine.{WordLine}
 use Rattle.irp_transcript.specs.declared.word_line.WordReply.{WordReply}
 use Rattle.irp_transcript.specs.declared.word_line.WordReply.TheVariants.{NoToken}
 use Rattle.irp_script_reader.specs.declared.act.Step.{Step}
-use Rattle.irp_script.specs.declared.answered.Answered.{Answered}
-use Rattle.irp_script.specs.declared.answered.Answered.TheVariants as answer
-use Rattle.irp_script.specs.declared.step_kind.StepKind.{StepKind}
-use Rattle.irp_script.specs.declared.step_kind.StepKind.TheVariants.{
+use Rattle.irp_steps.specs.declared.answered.Answered.{Answered}
+use Rattle.irp_steps.specs.declared.answered.Answered.TheVariants as answer
+use Rattle.irp_steps.specs.declared.step_kind.StepKind.{StepKind}
+use Rattle.irp_steps.specs.declared.step_kind.StepKind.TheVariants.{
   Calls,
   OnLock,
   Hands,
@@ -63,9 +63,9 @@ use Rattle.irp_script.specs.declared.step_kind.StepKind.TheVariants.{
 use Rattle.irp_script.specs.Acts.{Acts, HandActs, SlotActs}
 use Rattle.irp_script.specs.AtSlots.{AtSlots, IsSpent, fresh}
 use Rattle.irp_script.specs.Calling.{CallsFor}
-use Rattle.irp_script.specs.Conditions.{Heard, holds, none_heard, with_answer}
+use Rattle.irp_steps.specs.Conditions.{Heard, holds, none_heard, with_answer}
 use Rattle.irp_script.specs.Labels.{IsNamed, Known, known_to, none_bound}
-use Rattle.irp_script.specs.StepKinds.{kind_of}
+use Rattle.irp_steps.specs.StepKinds.{kind_of}
 use Rattle.irp_script.specs.Outcomes.{is_own_step, own_placed}
 use Rattle.irp_script.specs.Numbers.{EachAsOften}
 use Rattle.irp_script.specs.Stops.{IsUnmade}

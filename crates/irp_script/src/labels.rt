@@ -1,36 +1,25 @@
 //! The labels of a script while it runs.
 
 ghost use Rattle.std.specs.Prelude.{◌≡◌, ◌<◌, IfOk};
+ghost use Rattle.irp_steps.specs.Labels.{learned};
+ghost use Rattle.irp_steps.specs.StepKinds.{named_by};
 ghost use Rattle.irp_script.specs.Labels.{
   IsNamed,
   known_behind,
   known_to,
   label_apart,
-  label_at,
-  label_of,
-  learned,
   marked,
   marks_apart,
   names_apart,
   none_bound,
-  packet_in,
-  packet_of,
 };
-ghost use Rattle.irp_script.specs.StepKinds.{named_by};
 
-use crate::step_call::named_by;
 use irp_script_reader::{Named, Step, StepAct};
-use irp_types::{Call, IrpRef, Reply};
+use irp_steps::{UNBOUND, label_of, named_by, packet_in, packet_of};
+use irp_types::{IrpRef, Reply};
 use std::alloc::{AllocError, Global};
 use std::marker::Model;
 use std::sync::{Mutex, Wait};
-
-/// What a label stands for that isn't bound: a reference that is never live (this project's own format,
-/// docs/FORMATS.md).
-pub const UNBOUND: IrpRef = IrpRef {
-    slot: 0xFFFF_FFFF,
-    use_no: 0,
-};
 
 /// What each label of a script stands for.
 #[derive(Drop)]
@@ -60,23 +49,6 @@ pub struct Labels {
     bindings: Mutex<Bindings>,
 }
 
-/// The label that an act binds where it succeeds: an allocation binds its label, and a reuse the label that named its
-/// packet. None for an act that binds none.
-pub fn label_of(act: StepAct) -> Option<usize>
-    ensures { result ≡ label_of act }
-{
-    match act {
-        StepAct::Allocate { label, .. } => Some(label),
-        StepAct::Call(
-            Call::Reuse {
-                irp: Named::Label(label),
-                ..
-            },
-        ) => Some(label),
-        _ => None,
-    }
-}
-
 /// The label that a step binds, if it is one of another one of so many workers.
 fn label_apart(number: u32, workers: u32, step: Step) -> Option<usize>
     requires { 0 < workers }
@@ -86,38 +58,6 @@ fn label_apart(number: u32, workers: u32, step: Step) -> Option<usize>
         return None;
     }
     label_of(step.act)
-}
-
-/// The packet that a reply gives. None for one that gives none.
-fn packet_in(reply: Reply) -> Option<IrpRef>
-    ensures { result ≡ packet_in reply }
-{
-    match reply {
-        Reply::Irp(irp) => Some(irp),
-        _ => None,
-    }
-}
-
-/// What a label stands for, where labels stand for these packets, by number.
-fn label_at(packets: &[IrpRef], label: usize) -> IrpRef
-    ensures { result ≡ label_at packets.now label }
-{
-    match packets.get(label) {
-        Some(irp) => *irp,
-        None => UNBOUND,
-    }
-}
-
-/// The packet that an act names, where labels stand for these packets, by number: by a reference that packet, and by a
-/// label the one that the label stands for. Where it names none, one that is never live.
-pub fn packet_of(packets: &[IrpRef], act: StepAct) -> IrpRef
-    ensures { result ≡ packet_of packets.now act }
-{
-    match named_by(act) {
-        Some(Named::Irp(irp)) => irp,
-        Some(Named::Label(label)) => label_at(packets, label),
-        None => UNBOUND,
-    }
 }
 
 impl Bindings {

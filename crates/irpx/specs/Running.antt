@@ -44,7 +44,7 @@ use Rattle.irp_script_reader.specs.declared.script.Script.{Script}
 use Rattle.irp_script_reader.specs.declared.script.ScriptForm.{ScriptForm}
 use Rattle.irp_script_reader.specs.declared.script.ScriptForm.TheVariants as script_form
 use Rattle.irp_script.specs.Between.{hands_between}
-use Rattle.irp_script.specs.Behaviours.{cancel_rule_of}
+use Rattle.irp_steps.specs.Behaviours.{cancel_rule_of}
 use Rattle.irp_script.specs.Made.{calls_in, calls_of}
 use Rattle.irp_script.specs.Numbers.{EachAsOften, NoneMoreOften}
 use Rattle.irp_script.specs.Outcomes.{Outcome, Ways, outcomes}

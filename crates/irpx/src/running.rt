@@ -38,14 +38,12 @@ use crate::planned::Planned;
 use crate::told::{cancel_told, dispatch_told, routine_told};
 use crate::writing::write;
 use irp_routines::{Ask, Store};
-use irp_script::{
-    AlwaysOpen, ScriptSeat, Stop, Worked, hand_between, run_workers, script_seats, table_answer,
-    table_cancel,
-};
+use irp_script::{AlwaysOpen, ScriptSeat, Stop, Worked, hand_between, run_workers, script_seats};
 use irp_script_reader::{Script, ScriptFault, ScriptForm, ScriptParts, read_script};
 use irp_shared::{
     Form, Seat, Session, Shared, Transcript, TranscriptParts, WordLine, open_with_limit,
 };
+use irp_steps::{table_answer, table_cancel};
 use irp_transcript_writer::Out;
 use irp_types::{Row, Shown};
 use std::alloc::{AllocError, Global};

@@ -1,5 +1,5 @@
 use Rattle.std.proofs.Common.{◌≡◌, None, Some, All, length, ap, refl, subst, sym, ◌∙◌, rules}
-use Rattle.irp_script.specs.Conditions.{none_heard}
+use Rattle.irp_steps.specs.Conditions.{none_heard}
 use Rattle.irp_script.specs.Labels.{known_to, none_bound}
 use Rattle.irp_script.specs.Workers.{work_of}
 use Rattle.irp_script.specs.Seats.{IsAtLocks, pair_in, seat_at_work}
