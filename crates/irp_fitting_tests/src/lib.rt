@@ -1,4 +1,4 @@
-//! Tests of `irp_fitting`: that a transcript that fits goes out whole, and one that doesn't up to there. No clause says
+//! Tests of `irp_fast_reader`: that a transcript that fits goes out whole, and one that doesn't up to there. No clause says
 //! that memory is there.
 #![tactic(auto)]
 

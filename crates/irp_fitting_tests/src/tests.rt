@@ -1,6 +1,6 @@
 //! Two transcripts with one entry in which the slots differ.
 
-use irp_fitting::{Unfit, Unwritten, write_fitting};
+use irp_fast_reader::{Unfit, Unwritten, write_fitting};
 use irp_transcript::{Form, Header, Transcript};
 use irp_transcript_writer::WriterOut;
 use irp_types::{Call, Entry, IrpRef, Known, Questions, Refusal, Reply, Row};
