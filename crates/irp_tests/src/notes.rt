@@ -1,18 +1,19 @@
 //! What closures note of their calls, and two threads that tell each other how far they are.
 
+use crate::example::Act;
 use std::sync::atomic::{AtomicU32, AtomicU64, Ordering};
 
 /// How often one thread tries what another one has to make true.
 pub const TURNS: u32 = 100_000_000;
 
-/// The order in which closures were called, a digit each; whether a dispatch meets another thread; how often a dispatch
-/// ran, and how often the other thread was answered.
+/// The order in which closures were called, a digit each; how another thread acts on a lock while a dispatch runs, if
+/// one does; how often a dispatch ran, and how often the other thread was answered.
 #[derive(Drop)]
 pub struct Notes {
     order: AtomicU32,
-    meets: bool,
-    runs: AtomicU64,
-    answers: AtomicU64,
+    pub beside: &'static [(u32, Act)],
+    pub runs: AtomicU64,
+    pub answers: AtomicU64,
 }
 
 /// Waits until this count has come so far. Whether it has, within the turns.
@@ -26,11 +27,11 @@ pub fn waits(count: &AtomicU64, until: u64) -> bool {
 }
 
 impl Notes {
-    /// Notes of nothing, of dispatches that meet another thread or don't.
-    pub fn new(meets: bool) -> Notes {
+    /// Notes of nothing, beside another thread that acts so.
+    pub fn new(beside: &'static [(u32, Act)]) -> Notes {
         Notes {
             order: AtomicU32::new(0),
-            meets,
+            beside,
             runs: AtomicU64::new(0),
             answers: AtomicU64::new(0),
         }
@@ -51,21 +52,5 @@ impl Notes {
     /// Lets the digits go.
     pub fn clear(&self) {
         self.order.store(0, Ordering::SeqCst);
-    }
-
-    /// A dispatch runs: where it meets another thread, it waits until that was answered. Whether all is so.
-    pub fn is_met(&self) -> bool {
-        self.runs.fetch_add(1, Ordering::SeqCst);
-        !self.meets || waits(&self.answers, 1)
-    }
-
-    /// The other thread waits until a dispatch runs. Whether it does, within the turns.
-    pub fn is_running(&self) -> bool {
-        waits(&self.runs, 1)
-    }
-
-    /// The other thread was answered.
-    pub fn answer(&self) {
-        self.answers.fetch_add(1, Ordering::SeqCst);
     }
 }

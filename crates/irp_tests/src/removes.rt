@@ -4,12 +4,13 @@ ghost use Rattle.irp_remove.specs.Calls.{IsSameSeat};
 ghost use Rattle.irp_remove.specs.Pairing.{IsSeatOf};
 
 use crate::example::{Act, LOCK};
-use crate::notes::{Notes, TURNS};
+use crate::notes::{Notes, TURNS, waits};
 use crate::tried::{Halt, Tried, wanted};
 use irp_remove::{AcquireRefusal, DrainRefusal, Locks, RemoveSeat};
 use irp_types::DrainNote;
 use std::alloc::Global;
 use std::sync::Wait;
+use std::sync::atomic::Ordering;
 use std::thread;
 use std::thread::Threads;
 
@@ -72,13 +73,13 @@ impl Removes {
 
     /// Acts beside another thread, each in a seat, once a dispatch runs there; and tells that it was answered. Whether
     /// all was answered as it has to be.
-    pub fn act_beside(&mut self, notes: &Notes, acts: &[(u32, Act)]) -> bool {
-        let mut is_so = notes.is_running();
-        for (seat, act) in acts {
+    pub fn act_beside(&mut self, notes: &Notes) -> bool {
+        let mut is_so = waits(&notes.runs, 1);
+        for (seat, act) in notes.beside {
             let is_answered = self.act(*seat, *act);
             is_so = is_so && is_answered;
         }
-        notes.answer();
+        notes.answers.fetch_add(1, Ordering::SeqCst);
         is_so
     }
 }
@@ -163,12 +164,9 @@ pub fn remove_under_load<R: Threads + Wait + Sync>(rt: &R, alloc: Global) -> Res
         &|seat: RemoveSeat| -> bool
             requires { IsSeatOf locks.now seat }
         { Holder { locks, seat }.plays() },
-    );
-    match played {
-        Ok(played) => wanted(
-            played.as_slice() == [true; 9].as_slice(),
-            "a seat didn't do all that it has to",
-        ),
-        Err(_) => Err(Halt::Memory),
-    }
+    )?;
+    wanted(
+        played.as_slice() == [true; 9].as_slice(),
+        "a seat didn't do all that it has to",
+    )
 }

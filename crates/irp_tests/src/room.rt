@@ -125,20 +125,15 @@ impl<R: Wait, A: Ask, L: Session> Room<'_, R, A, L> {
         matches!(made, Err(NotRecorded::Behind { length }) if length == wanted)
     }
 
-    /// Makes a call in a seat, of whose receipt another one learns. Whether that one has seen so many entries then.
-    fn learns(&mut self, seat: u32, other: u32, seen: u64) -> bool {
-        let Some(own) = self.seats.get_mut(seat as usize) else {
-            return false;
-        };
-        let Ok(receipt) = self.shared.call(self.rt, own, ALLOCATE, &KnowsNothing) else {
-            return false;
-        };
+    /// Makes a call in a seat, of whose receipt another one learns. How many entries that one has seen then.
+    fn learned(&mut self, seat: u32, other: u32) -> Option<u64> {
+        let own = self.seats.get_mut(seat as usize)?;
+        let made = self.shared.call(self.rt, own, ALLOCATE, &KnowsNothing);
+        let receipt = made.ok()?;
         self.entries = self.entries.wrapping_add(1);
-        let Some(own) = self.seats.get_mut(other as usize) else {
-            return false;
-        };
+        let own = self.seats.get_mut(other as usize)?;
         learn(own, &receipt);
-        own.seen() == seen
+        Some(own.seen())
     }
 
     /// Makes the steps of an example, one after the other, each call after a look, and has a last look: each answer has
@@ -156,7 +151,7 @@ impl<R: Wait, A: Ask, L: Session> Room<'_, R, A, L> {
                 }
                 Deed::Act(act) => self.removes.act(seat, act),
                 Deed::Behind(seen, length) => self.is_behind(seat, seen, length),
-                Deed::Learn(other, seen) => self.learns(seat, other, seen),
+                Deed::Learn(other, seen) => self.learned(seat, other) == Some(seen),
             };
             wanted(is_so, "an answer isn't the example's")?;
         }

@@ -69,14 +69,6 @@ const FINISH: Plan = Plan::Finish {
     information: 5,
 };
 
-/// The second device completes the packet.
-const COMPLETE: Call = Call::Complete {
-    party: Party::Device(DeviceId(1)),
-    irp: IRP,
-    status: Status::SUCCESS,
-    information: 6,
-};
-
 /// Whoever has the token of its use completes the packet.
 const FINISH_TAKEN: Call = Call::FinishTaken {
     irp: IRP,
@@ -137,7 +129,9 @@ static KEPT: Example = Example {
         (0, Deed::Call(fill!(IRP), Reply::Done, 0));
         (0, Deed::Call(send!(IRP, 2), Reply::Status(Status::PENDING), 3215));
         (0, Deed::Call(LOOK, seen!(Owner::Device(DeviceId(1)), 2, SUCCESS, 5, false, false, true), 0));
-        (0, Deed::Call(COMPLETE, Reply::Done, 4));
+        (0, Deed::Call(
+            Call::Complete { party: Party::Device(DeviceId(1)), irp: IRP, status: Status::SUCCESS, information: 6 },
+            Reply::Done, 4));
         (0, Deed::Call(LOOK, seen!(Owner::Ended, 4, SUCCESS, 6, false, true, false), 0));
     },
     last: seen!(Owner::Ended, 4, SUCCESS, 6, false, true, false),

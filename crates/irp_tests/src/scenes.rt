@@ -71,86 +71,63 @@ const ONE: Step = by!(0, ALLOCATE);
 const TWO: Step = by!(1, ALLOCATE);
 
 /// The third step was refused.
-const REFUSED_LOOK: Option<Condition> = Some(Condition {
+const REFUSED: Option<Condition> = Some(Condition {
     step: 2,
     wanted: true,
     answer: ExpectedAnswer::AnyRefusal,
 });
 
-/// Nothing is run.
-const NOTHING: Scene = Scene {
-    seats: 9,
-    slots: 9,
-    workers: 0,
-    setup: &[],
-    steps: &[],
-    passing: Passing::Free,
-    entries: 0,
-    lines: &[],
-    stop: None,
-};
+/// A scene: its seats, slots and workers; how the gate lets steps pass; the setup and the steps; the entries, the word
+/// lines and the stop that come of it.
+macro_rules! scene {
+    ($seats:literal, $slots:literal, $workers:literal, $passing:expr;
+     $setup:expr => $steps:expr;
+     $entries:literal, $lines:expr, $stop:expr) => {
+        Scene {
+            seats: $seats,
+            slots: $slots,
+            workers: $workers,
+            passing: $passing,
+            setup: &$setup,
+            steps: &$steps,
+            entries: $entries,
+            lines: &$lines,
+            stop: $stop,
+        }
+    };
+}
 
 /// Nine seats, with a remove seat and a slot each.
-static PAIRS: Scene = NOTHING;
+static PAIRS: Scene = scene! { 9, 9, 0, Passing::Free; [] => []; 0, [], None };
 
 /// Two workers make ten calls each, of which two and two are under way at one time.
-static TWO_CALLS: Scene = Scene {
-    seats: 2,
-    slots: 0,
-    workers: 2,
-    setup: &[create!()],
-    steps: &[
-        ONE, ONE, ONE, ONE, ONE, ONE, ONE, ONE, ONE, ONE, TWO, TWO, TWO, TWO, TWO, TWO, TWO, TWO,
-        TWO, TWO,
-    ],
-    passing: Passing::InPairs,
-    entries: 21,
-    ..NOTHING
+static TWO_CALLS: Scene = scene! {
+    2, 0, 2, Passing::InPairs;
+    [create!()] => [
+        ONE, ONE, ONE, ONE, ONE, ONE, ONE, ONE, ONE, ONE, TWO, TWO, TWO, TWO, TWO, TWO, TWO, TWO, TWO, TWO,
+    ];
+    21, [], None
 };
 
 /// Where a step's seat isn't there, its worker stops, and the other worker runs all steps of its own.
-static MISSING_SEAT: Scene = Scene {
-    seats: 2,
-    slots: 0,
-    workers: 2,
-    steps: &[acquire!(0, 1), look!(2), acquire!(0, 2), acquire!(1, 3)],
-    lines: &[(0, 0), (1, 3)],
-    stop: no_seat!(2),
-    ..NOTHING
+static MISSING_SEAT: Scene = scene! {
+    2, 0, 2, Passing::Free;
+    [] => [acquire!(0, 1), look!(2), acquire!(0, 2), acquire!(1, 3)];
+    0, [(0, 0), (1, 3)], no_seat!(2)
 };
 
 /// Where a step of the setup stops, neither the rest of the setup nor any other step is run.
-static STOP_IN_SETUP: Scene = Scene {
-    seats: 1,
-    slots: 0,
-    workers: 1,
-    setup: &[create!(), look!(1), create!()],
-    steps: &[create!()],
-    entries: 1,
-    stop: no_seat!(1),
-    passing: Passing::InTurn(0),
-    ..NOTHING
+static STOP_IN_SETUP: Scene = scene! {
+    1, 0, 1, Passing::InTurn(0);
+    [create!(), look!(1), create!()] => [create!()];
+    1, [], no_seat!(1)
 };
 
 /// The gate is called before and after each step that is made: not for one whose condition fails.
-static GATE_TURNS: Scene = Scene {
-    seats: 3,
-    slots: 0,
-    workers: 1,
-    setup: &[create!()],
-    steps: &[
-        by!(2, ALLOCATE),
-        acquire!(0, 1),
-        look!(1),
-        Step {
-            condition: REFUSED_LOOK,
-            ..look!(1)
-        },
-    ],
-    entries: 3,
-    lines: &[(0, 1)],
-    passing: Passing::InTurn(3),
-    ..NOTHING
+static GATE_TURNS: Scene = scene! {
+    3, 0, 1, Passing::InTurn(3);
+    [create!()] => [by!(2, ALLOCATE), acquire!(0, 1), look!(1), Step { condition: REFUSED, ..look!(1) }];
+    3, [(0, 1)], None
 };
 
 /// The scenes by their names.

@@ -9,7 +9,7 @@ use crate::removes::Removes;
 use crate::room::Room;
 use crate::slots::taken;
 use crate::texts::put_transcript;
-use crate::tried::{Halt, Tried, carried, made_or, wanted};
+use crate::tried::{Halt, Tried, carried, wanted};
 use irp_routines::{Ask, Store};
 use irp_shared::{Seat, Session, Shared, Transcript, open_with_limit};
 use std::alloc::Global;
@@ -25,12 +25,11 @@ fn played_beside<A: Ask + Send, L: Session + Send + Sync, R: Threads + Wait + Sy
     mut room: Room<'_, R, A, L>,
     mut removes: Removes,
     example: &Example,
-    beside: &[(u32, Act)],
 ) -> Result<u64, Halt> {
     let notes = room.notes;
     let is_begun = removes.act(0, Act::Acquire(1, Ok(())));
     let playing = move || room.play(example);
-    let acting = move || removes.act_beside(notes, beside);
+    let acting = move || removes.act_beside(notes);
     let (played, is_so) = thread::join(rt, playing, acting);
     wanted(
         is_begun && is_so,
@@ -47,12 +46,11 @@ fn played<A: Ask + Send, L: Session + Send + Sync, R: Threads + Wait + Sync>(
     seats: &mut [Seat<L>],
     notes: &Notes,
     example: &Example,
-    beside: &[(u32, Act)],
     tried: &mut Tried,
 ) -> Result<u64, Halt> {
     let token = taken(alloc, tried)?;
     let removes = Removes::open(alloc, tried)?;
-    let others = if beside.is_empty() {
+    let others = if notes.beside.is_empty() {
         None
     } else {
         Some(Removes::open(alloc, tried)?)
@@ -68,7 +66,7 @@ fn played<A: Ask + Send, L: Session + Send + Sync, R: Threads + Wait + Sync>(
         tried,
     };
     match others {
-        Some(others) => played_beside(rt, room, others, example, beside),
+        Some(others) => played_beside(rt, room, others, example),
         None => room.play(example),
     }
 }
@@ -83,7 +81,6 @@ fn session<A: Ask + Send + Drop, L: Session + Send + Sync, R: Threads + Wait + S
     seats: u32,
     notes: &Notes,
     example: &Example,
-    beside: &[(u32, Act)],
     tried: &mut Tried,
 ) -> Result<Transcript, Halt>
     requires blank { (blank.name ≡ L.name) × (blank.parts ≡ L.parts) }
@@ -97,18 +94,12 @@ fn session<A: Ask + Send + Drop, L: Session + Send + Sync, R: Threads + Wait + S
         return Err(tried.lost("irp_shared::open_with_limit"));
     };
     let own = places.as_mut_slice();
-    let done = played(rt, alloc, &shared, own, notes, example, beside, tried);
+    let done = played(rt, alloc, &shared, own, notes, example, tried);
     let (count, (shared, places)) = carried(done, (shared, places))?;
-    let closed = shared.close(places);
-    let transcript = made_or(closed, "the seats kept other entries than the history has")?;
-    let is_whole = transcript.entries().len() as u64 == count;
-    Ok(
-        carried(
-            wanted(is_whole, "a transcript has other entries"),
-            transcript,
-        )?
-        .1,
-    )
+    match shared.close(places) {
+        Ok(transcript) if transcript.entries().len() as u64 == count => Ok(transcript),
+        _ => Err(Halt::Wrong("the seats kept other entries than the history has")),
+    }
 }
 
 /// Plays an example in a session of this store, and puts the lines of its transcript.
@@ -118,14 +109,13 @@ pub fn play_in_session<R: Threads + Wait + Sync>(
     store: Store,
     notes: &Notes,
     example: &Example,
-    beside: &[(u32, Act)],
     tried: &mut Tried,
     out: &mut Vec<u8>,
 ) -> Result<(), Halt> {
     let seats = example.seats.wrapping_add(1);
     let blank = Blank::new(u64::from(seats));
     let transcript = session::<Store, Brand, R>(
-        rt, alloc, blank, store, seats, notes, example, beside, tried,
+        rt, alloc, blank, store, seats, notes, example, tried,
     )?;
     put_transcript(alloc, out, transcript, example.seats, tried)
 }

@@ -4,7 +4,7 @@ ghost use Rattle.std.specs.Prelude.{◌≡◌, true};
 ghost use Rattle.irp_types.specs.Rules.{is_allowed, is_plan_allowed, is_cancel_allowed};
 
 use crate::example::{Act, Asked, Example};
-use crate::notes::Notes;
+use crate::notes::{Notes, waits};
 use crate::session::play_in_session;
 use crate::tables::extent_of;
 use crate::tried::{Halt, Tried, carried, wanted};
@@ -13,15 +13,9 @@ use irp_routines::{
 };
 use irp_types::{Answer, CancelAnswer, CancelRule, DispatchId, Known, Plan, Rule, Shown, Status};
 use std::alloc::Global;
+use std::sync::atomic::Ordering;
 use std::sync::{Arc, Wait};
 use std::thread::Threads;
-
-/// It continues, where its rule lets it.
-const CONTINUES: Answer = Answer {
-    keep: false,
-    mark: false,
-    replacement: None,
-};
 
 /// What is added to a store.
 #[derive(Drop)]
@@ -45,7 +39,12 @@ fn answered(notes: &Notes, rule: Rule, digit: u32, shown: Shown) -> Answer
     ensures { is_allowed rule shown result ≡ true }
 {
     notes.note(digit.wrapping_add((shown.context % 10) as u32));
-    guarded_answer(rule, shown, CONTINUES)
+    let answer = Answer {
+        keep: false,
+        mark: false,
+        replacement: None,
+    };
+    guarded_answer(rule, shown, answer)
 }
 
 /// Notes its digit, and answers so, where its rule lets it.
@@ -56,12 +55,14 @@ fn cancelled(notes: &Notes, rule: CancelRule, digit: u32, answer: CancelAnswer) 
     guarded_cancel(rule, answer)
 }
 
-/// Notes its digit, and plans so, where that is allowed, and the other thread that it meets was answered.
+/// Notes its digit, and plans so, where that is allowed, and the thread beside it, if there is one, was answered while it
+/// waited.
 fn planned(notes: &Notes, known: Known, digit: u32, plan: Plan, shown: Shown) -> Plan
     ensures { is_plan_allowed known shown result ≡ true }
 {
     notes.note(digit);
-    if notes.is_met() {
+    notes.runs.fetch_add(1, Ordering::SeqCst);
+    if notes.beside.is_empty() || waits(&notes.answers, 1) {
         guarded_plan(known, shown, plan)
     } else {
         Plan::Finish {
@@ -145,7 +146,7 @@ fn row_at(rows: &[Asked], place: usize) -> Option<(Asked, u32)> {
 }
 
 /// Adds so many closures and drivers to a store, by these rows. Then it plays the example in a session of the store, if
-/// there is one, while others act on a lock beside it. All closures are made here, since no function hands out what it
+/// there is one. All closures are made here, since no function hands out what it
 /// makes of them.
 fn filled<R: Threads + Wait + Sync>(
     rt: &R,
@@ -153,7 +154,7 @@ fn filled<R: Threads + Wait + Sync>(
     notes: &Arc<Notes>,
     rows: &[Asked],
     count: usize,
-    example: Option<(&Example, &[(u32, Act)])>,
+    example: Option<&Example>,
     tried: &mut Tried,
     out: &mut Vec<u8>,
 ) -> Result<(), Halt> {
@@ -207,9 +208,7 @@ fn filled<R: Threads + Wait + Sync>(
     }
     let (_, store) = carried(done, store)?;
     match example {
-        Some((example, beside)) => {
-            play_in_session(rt, alloc, store, notes, example, beside, tried, out)
-        }
+        Some(example) => play_in_session(rt, alloc, store, notes, example, tried, out),
         None => Ok(()),
     }
 }
@@ -223,7 +222,7 @@ pub fn grow_store<R: Threads + Wait + Sync>(
     tried: &mut Tried,
     out: &mut Vec<u8>,
 ) -> Result<(), Halt> {
-    let notes = Arc::new(alloc, Notes::new(false))?;
+    let notes = Arc::new(alloc, Notes::new(&[]))?;
     filled(rt, alloc, &notes, rows, count, None, tried, out)
 }
 
@@ -232,11 +231,11 @@ pub fn play_example<R: Threads + Wait + Sync>(
     rt: &R,
     alloc: Global,
     example: &Example,
-    beside: &[(u32, Act)],
+    beside: &'static [(u32, Act)],
     tried: &mut Tried,
     out: &mut Vec<u8>,
 ) -> Result<(), Halt> {
-    let notes = Arc::new(alloc, Notes::new(!beside.is_empty()))?;
-    let (rows, played) = (example.asked, Some((example, beside)));
+    let notes = Arc::new(alloc, Notes::new(beside))?;
+    let (rows, played) = (example.asked, Some(example));
     filled(rt, alloc, &notes, rows, rows.len(), played, tried, out)
 }

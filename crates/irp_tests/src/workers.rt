@@ -95,23 +95,13 @@ fn run<A: Ask + Send, L: Session + Send + Sync, R: Threads + Wait + Sync>(
         return Err(tried.lost("script_seats"));
     };
     if scene.workers == 0 {
-        return wanted(
-            pairs.len() == scene.seats as usize,
-            "some seats are missing",
-        );
+        let are_all = pairs.len() == scene.seats as usize;
+        return wanted(are_all, "some seats are missing");
     }
     let script = script_of(alloc, scene)?;
-    let gate = Watch::new(scene);
+    let (gate, count) = (Watch::new(scene), scene.workers);
     match run_workers(
-        rt,
-        alloc,
-        shared,
-        locks,
-        &slots,
-        pairs,
-        &script,
-        &gate,
-        scene.workers,
+        rt, alloc, shared, locks, &slots, pairs, &script, &gate, count,
     ) {
         Ok(worked) => judged(scene, &gate, worked),
         Err(_) => Err(tried.lost("run_workers")),
