@@ -21,9 +21,19 @@ use std::thread::Threads;
 #[derive(Drop)]
 enum Item {
     Routine(Routine),
-    Cancel(CancelRoutine),
+    CancelRoutine(CancelRoutine),
     Dispatch(Dispatch),
     Driver(Vec<(u8, DispatchId)>),
+}
+
+/// Boxes a closure, and makes an item of it.
+macro_rules! boxed {
+    ($alloc:ident => $kind:ident, $by:ident: $run:expr) => {
+        match Box::new($alloc, $run) {
+            Ok(run) => Ok(Item::$kind($kind::new($by, run))),
+            Err(_) => Err(Halt::Memory),
+        }
+    };
 }
 
 /// A call that was refused: its name, why, and what came back.
@@ -82,9 +92,13 @@ fn put(store: &mut Store, item: Item) -> Result<u32, Refused> {
                 Err(back) => ("Store::add", back.reason, Item::Routine(back.item)),
             }
         }
-        Item::Cancel(own) => match store.add_cancel(own) {
+        Item::CancelRoutine(own) => match store.add_cancel(own) {
             Ok(id) => return Ok(id.0),
-            Err(back) => ("Store::add_cancel", back.reason, Item::Cancel(back.item)),
+            Err(back) => (
+                "Store::add_cancel",
+                back.reason,
+                Item::CancelRoutine(back.item),
+            ),
         },
         Item::Dispatch(own) => match store.add_dispatch(own) {
             Ok(id) => return Ok(id.0),
@@ -146,8 +160,7 @@ fn row_at(rows: &[Asked], place: usize) -> Option<(Asked, u32)> {
 }
 
 /// Adds so many closures and drivers to a store, by these rows. Then it plays the example in a session of the store, if
-/// there is one. All closures are made here, since no function hands out what it
-/// makes of them.
+/// there is one. All closures are made here, since no function hands out what it makes of them.
 fn filled<R: Threads + Wait + Sync>(
     rt: &R,
     alloc: Global,
@@ -167,44 +180,26 @@ fn filled<R: Threads + Wait + Sync>(
         let known = store.tables().counts();
         tried.step = place;
         let own: Result<_, _> = notes.clone();
-        let added = match (row, own) {
+        let made = match (row, own) {
             (Asked::Routine(_, rule, digit), Ok(own)) => {
-                let run = move |shown: Shown| answered(&own, rule, digit, shown);
-                match Box::new(alloc, run) {
-                    Ok(run) => {
-                        let item = Item::Routine(Routine::new(rule, run));
-                        add(&mut store, item, row, number, tried)
-                    }
-                    Err(_) => Err(Halt::Memory),
-                }
+                boxed! { alloc => Routine, rule: move |shown: Shown| answered(&own, rule, digit, shown) }
             }
             (Asked::Cancel(_, rule, answer, digit), Ok(own)) => {
-                let run = move |_shown: Shown| cancelled(&own, rule, digit, answer);
-                match Box::new(alloc, run) {
-                    Ok(run) => {
-                        let item = Item::Cancel(CancelRoutine::new(rule, run));
-                        add(&mut store, item, row, number, tried)
-                    }
-                    Err(_) => Err(Halt::Memory),
-                }
+                boxed! { alloc => CancelRoutine, rule: move |_shown: Shown| cancelled(&own, rule, digit, answer) }
             }
             (Asked::Dispatch(_, plan, digit), Ok(own)) => {
-                let run = move |shown: Shown| planned(&own, known, digit, plan, shown);
-                match Box::new(alloc, run) {
-                    Ok(run) => {
-                        let item = Item::Dispatch(Dispatch::new(known, run));
-                        add(&mut store, item, row, number, tried)
-                    }
-                    Err(_) => Err(Halt::Memory),
-                }
+                boxed! { alloc => Dispatch, known: move |shown: Shown| planned(&own, known, digit, plan, shown) }
             }
-            (Asked::Driver(_, pairs), _) => match pairs.to_vec(alloc) {
-                Ok(own) => add(&mut store, Item::Driver(own), row, number, tried),
+            (Asked::Driver(_, pairs), Ok(_)) => match pairs.to_vec(alloc) {
+                Ok(own) => Ok(Item::Driver(own)),
                 Err(_) => Err(Halt::Memory),
             },
-            _ => Err(Halt::Memory),
+            (_, Err(_)) => Err(Halt::Memory),
         };
-        done = done.and(added);
+        done = done.and(match made {
+            Ok(item) => add(&mut store, item, row, number, tried),
+            Err(halt) => Err(halt),
+        });
     }
     let (_, store) = carried(done, store)?;
     match example {
