@@ -1,9 +1,8 @@
-//! The texts of transcripts, read and written.
+//! The texts of transcripts, read fast.
 //!
 //! - [`read_transcript`] reads bytes as a transcript, or answers the first line that is refused.
 //! - [`Reader`] reads a transcript, too, and is fed its bytes block after block; it gives each line as it ends.
 //! - [`Ahead`] is what several threads read of a block before its lines' turn; a [`Reader`] is quicker with it.
-//! - [`write_transcript`] writes a transcript, or answers how much of it went out.
 //!
 //! What was written is read again as the same: that is a law of the form of transcripts. So an entry of a line is
 //! guessed, and the guess is written: where what was written is the line, and the entry fits, the line is read as that
@@ -25,7 +24,6 @@ mod scan;
 
 pub use ahead::{Ahead, count_threads};
 pub use irp_transcript_reader::ReadFault;
-pub use irp_transcript_writer::{Cause, Failed, Out, WriteFault, WriterOut, write_transcript};
 pub use line::Line;
 pub use read::read_transcript;
 pub use reader::Reader;

@@ -12,7 +12,7 @@ use Rattle.irp_types.specs.State.{Entrance, IsDriver, Tables, most_known}
 use Rattle.irp_types.specs.declared.routine.Known.{Known}
 use Rattle.irp_transcript.specs.Headers.{IsHeader, fixed_of, slots_of}
 use Rattle.irp_transcript.specs.declared.header.Header.{Header}
-use Rattle.irp_script.specs.Behaviours.{cancel_rule_of}
+use Rattle.irp_steps.specs.Behaviours.{cancel_rule_of}
 use Rattle.irp_script_reader.specs.Forms.{slots_of as script_slots}
 use Rattle.irp_script_reader.specs.Plans.{has_major, is_driver, is_handler}
 use Rattle.irp_script_reader.specs.Sound.{IsSound, known_of}

@@ -33,7 +33,7 @@ use Rattle.irp_machine.specs.declared.parts.Planned.{Planned}
 use Rattle.irp_machine.specs.Headers.{IsHeaderOf}
 use Rattle.irp_machine.specs.Conditions.{act_now, holds, is_due}
 use Rattle.irp_machine.specs.Machine.{RulesValue, IsNext, StepsTo, act_of, seat_at}
-use Rattle.irp_script.specs.Labels.{packet_of}
+use Rattle.irp_steps.specs.Labels.{packet_of}
 use Rattle.irp_machine.specs.Next.{after_call, binding, is_tokenless, naming, naming_at, next_by, next_of, with_packet}
 use Rattle.irp_machine.specs.Openings.{IsStuck, first_standing, rules_of, seats_of}
 use Rattle.irp_machine.specs.Planning.{is_bound_elsewhere, is_named_elsewhere, own_acts, planned}

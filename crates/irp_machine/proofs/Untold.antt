@@ -32,7 +32,7 @@ use Rattle.irp_machine.specs.Calling.{IsCalled}
 use Rattle.irp_machine.specs.Endings.{end_of, holds_of, holders_below, locks_below, replies_of, without_replies}
 use Rattle.irp_machine.specs.Conditions.{act_now}
 use Rattle.irp_machine.specs.Machine.{RulesValue, allocates, Makes, StepsTo, act_of, knows_of, seat_at}
-use Rattle.irp_script.specs.Labels.{packet_of}
+use Rattle.irp_steps.specs.Labels.{packet_of}
 use Rattle.irp_machine.specs.Next.{is_tokenless, naming_at, next_by, next_of, with_packet, with_token}
 use Rattle.irp_machine.specs.Openings.{MakesAll}
 use Rattle.irp_machine.specs.Standings.{StandingValue, after_change, with_given, with_seat_changed}

@@ -20,7 +20,7 @@ use Rattle.irp_routines.specs.Answers.{AreAnswered}
 use Rattle.irp_types.specs.declared.asked.Asked.{Asked}
 use Rattle.irp_script_reader.specs.declared.script.CompletionRoutine.{CompletionRoutine}
 use Rattle.irp_script_reader.specs.declared.script.ScriptParts.{ScriptParts}
-use Rattle.irp_script.specs.Behaviours.{answer_of, plan_of}
+use Rattle.irp_steps.specs.Behaviours.{answer_of, plan_of}
 
 -- an answer that replaces nothing, keeps nothing and marks nothing
 abbrev pub continues : Answer

@@ -4,7 +4,7 @@ use Rattle.std.specs.List.{find}
 use Rattle.std.specs.Option.{option_map, option_map_or}
 use Rattle.irp_script_reader.specs.declared.condition.Condition.{Condition}
 use Rattle.irp_script_reader.specs.declared.condition.ExpectedAnswer.{ExpectedAnswer}
-use Rattle.irp_script.specs.Conditions.{expects_reply, expects_word, is_flag}
+use Rattle.irp_steps.specs.Conditions.{expects_reply, expects_word, is_flag}
 use Rattle.irp_plain.specs.Seats.{SeatValue}
 use Rattle.irp_plain.specs.declared.answered.Answered.{Answered}
 use Rattle.irp_plain.specs.declared.answered.Answered.TheVariants.{Reply, Word}

@@ -7,7 +7,7 @@ use Rattle.irp_transcript.specs.Headers.{majors}
 use Rattle.irp_transcript.specs.declared.header.Form.{Form}
 use Rattle.irp_transcript.specs.declared.header.Form.TheVariants as form
 use Rattle.irp_transcript.specs.declared.header.Header.{Header}
-use Rattle.irp_script.specs.Behaviours.{cancel_rule_of}
+use Rattle.irp_steps.specs.Behaviours.{cancel_rule_of}
 use Rattle.irp_script_reader.specs.Sound.{known_of}
 use Rattle.irp_script_reader.specs.declared.script.ScriptForm.{ScriptForm}
 use Rattle.irp_script_reader.specs.declared.script.ScriptForm.TheVariants as script

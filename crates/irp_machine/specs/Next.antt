@@ -11,7 +11,7 @@ use Rattle.irp_types.specs.declared.reply.Reply.TheVariants as manager
 use Rattle.irp_transcript.specs.declared.word_line.WordReply.TheVariants.{NoToken}
 use Rattle.irp_script_reader.specs.declared.act.StepAct.{StepAct}
 use Rattle.irp_script_reader.specs.declared.act.StepAct.TheVariants as does
-use Rattle.irp_script.specs.Labels.{label_of, packet_of}
+use Rattle.irp_steps.specs.Labels.{label_of, packet_of}
 use Rattle.irp_plain.specs.declared.parts.Stage.{Stage}
 use Rattle.irp_plain.specs.declared.parts.Stage.TheVariants as stages
 use Rattle.irp_plain.specs.declared.parts.Taken.{Taken}

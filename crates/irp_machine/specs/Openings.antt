@@ -7,7 +7,7 @@ use Rattle.irp_script_reader.specs.declared.act.Step.{Step}
 use Rattle.irp_script_reader.specs.declared.script.ScriptParts.{ScriptParts}
 use Rattle.irp_plain.specs.declared.parts.Slot.{Slot}
 use Rattle.irp_machine.specs.Machine.{RulesValue, StepsTo, act_of}
-use Rattle.irp_script.specs.Labels.{unbound}
+use Rattle.irp_steps.specs.Labels.{unbound}
 use Rattle.irp_machine.specs.Planning.{acts_below}
 use Rattle.irp_plain.specs.Seats.{new_seat}
 use Rattle.irp_machine.specs.Standings.{ManagerValue, StandingValue, opening_manager}

@@ -7,8 +7,8 @@ use Rattle.irp_script_reader.specs.declared.act.Named.TheVariants.{Label, Irp}
 use Rattle.irp_script_reader.specs.declared.act.Step.{Step}
 use Rattle.irp_script_reader.specs.declared.condition.Condition.{Condition}
 use Rattle.irp_machine.specs.declared.parts.Planned.{Planned}
-use Rattle.irp_script.specs.Labels.{label_of}
-use Rattle.irp_script.specs.StepKinds.{named_by}
+use Rattle.irp_steps.specs.Labels.{label_of}
+use Rattle.irp_steps.specs.StepKinds.{named_by}
 
 -- the label by which a packet is named, where it is
 abbrev pub label_by : Option Named → Option ℕ

@@ -7,8 +7,8 @@ ghost use Rattle.irp_transcript.specs.Headers.{fixed_of};
 ghost use Rattle.irp_machine.specs.Asking.{IsPlanTold, IsAnswerTold, IsCancelTold, routine_at, answer_at, plan_at, cancel_at};
 
 use irp_routines::{Ask, guarded_answer, guarded_cancel, guarded_plan};
-use irp_script::{table_answer, table_plan};
 use irp_script_reader::{CompletionRoutine, ScriptParts};
+use irp_steps::{table_answer, table_plan};
 use irp_transcript::Header;
 use irp_types::{
     Answer, CancelAnswer, CancelId, CancelRule, DispatchId, DriverId, Known, Plan, RoutineId, Rule,

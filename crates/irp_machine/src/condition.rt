@@ -6,8 +6,8 @@ ghost use Rattle.irp_machine.specs.Conditions as spec;
 
 use crate::parts::Planned;
 use irp_plain::{Answered, SeatState, Told};
-use irp_script::{expects_reply, expects_word};
 use irp_script_reader::{Condition, ExpectedAnswer};
+use irp_steps::{expects_reply, expects_word};
 
 /// Whether what was answered is the answer that is expected.
 fn expects(wanted: ExpectedAnswer, given: Answered) -> bool

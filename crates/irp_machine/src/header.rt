@@ -3,12 +3,12 @@
 ghost use Rattle.std.specs.Prelude.{◌≡◌, All, IfOk, map};
 ghost use Rattle.irp_types.specs.Rules.{IsWithin};
 ghost use Rattle.irp_types.specs.State.{most_known, no_routines};
-ghost use Rattle.irp_script.specs.Behaviours.{cancel_rule_of};
+ghost use Rattle.irp_steps.specs.Behaviours.{cancel_rule_of};
 ghost use Rattle.irp_script_reader.specs.Sound.{IsSound, with_one, with_all};
 ghost use Rattle.irp_machine.specs.Headers.{AreMajorsApart, AreSorted, IsHeaderOf, IsSorted, form_of};
 
-use irp_script::cancel_rule;
 use irp_script_reader::{CompletionRoutine, ScriptForm, ScriptParts};
+use irp_steps::cancel_rule;
 use irp_transcript::{Form, Header};
 use irp_types::{CancelAnswer, CancelRule, DispatchId, Known, Row, Rule};
 use std::alloc::{AllocError, Global};

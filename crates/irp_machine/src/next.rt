@@ -9,8 +9,8 @@ use irp_plain::{
     After, Answered, Change, NewLabel, SeatState, Stage, Taken, bound, going, hand, on_lock, only,
     place_of_taken, publish, request, told, withdraw,
 };
-use irp_script::{label_of, packet_of};
 use irp_script_reader::StepAct;
+use irp_steps::{label_of, packet_of};
 use irp_transcript::WordReply;
 use irp_types::{Call, IrpRef, Reply};
 

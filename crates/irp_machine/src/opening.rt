@@ -13,8 +13,8 @@ use crate::machine::ScriptMachine;
 use crate::planning::acts_of;
 use crate::standing::Standing;
 use irp_plain::{SeatState, Slot};
-use irp_script::UNBOUND;
 use irp_script_reader::{ScriptParts, Step};
+use irp_steps::UNBOUND;
 use irp_transcript::Header;
 use std::alloc::{AllocError, Global};
 

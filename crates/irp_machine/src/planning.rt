@@ -2,13 +2,13 @@
 
 ghost use Rattle.std.specs.Prelude.{◌≡◌, ◌<◌, ◌^◌, IfOk, OnOk, length};
 ghost use Rattle.std.specs.List.{list_any};
-ghost use Rattle.irp_script.specs.StepKinds.{named_by};
+ghost use Rattle.irp_steps.specs.StepKinds.{named_by};
 ghost use Rattle.irp_machine.specs.Planning as spec;
 
 use crate::parts::Planned;
 use irp_plain::ActPlace;
-use irp_script::{label_of, named_by};
 use irp_script_reader::{Named, Step, StepAct};
+use irp_steps::{label_of, named_by};
 use irp_types::Row;
 use std::alloc::{AllocError, Global};
 

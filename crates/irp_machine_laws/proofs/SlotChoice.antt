@@ -20,7 +20,7 @@ use Rattle.irp_plain.specs.declared.parts.Stage.{Stage}
 use Rattle.irp_plain.specs.declared.parts.Stage.TheVariants as stages
 use Rattle.irp_plain.specs.Changes as change
 use Rattle.irp_machine.specs.Machine.{RulesValue, IsNext}
-use Rattle.irp_script.specs.Labels.{packet_of}
+use Rattle.irp_steps.specs.Labels.{packet_of}
 use Rattle.irp_machine.specs.Next.{is_tokenless, naming_at, next_by, with_packet}
 use Rattle.irp_machine.specs.Openings.{empty_slot}
 use Rattle.irp_plain.specs.Seats.{SeatValue, new_seat, after_step}

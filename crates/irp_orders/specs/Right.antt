@@ -15,7 +15,7 @@ use Rattle.irp_machine.specs.declared.outcome.LockEnd.{LockEnd}
 use Rattle.irp_machine.specs.declared.outcome.SlotEnd.{SlotEnd}
 use Rattle.irp_plain.specs.declared.answered.Answered.{Answered}
 use Rattle.irp_plain.specs.declared.answered.Answered.TheVariants as answered
-use Rattle.irp_script.specs.Conditions.{is_refused_word}
+use Rattle.irp_steps.specs.Conditions.{is_refused_word}
 use Rattle.irp_script_reader.specs.declared.act.Step.{Step}
 use Rattle.irp_script_reader.specs.declared.script.ScriptParts.{ScriptParts}
 use Rattle.irp_orders.specs.Facts.{answers_of}

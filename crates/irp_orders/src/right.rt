@@ -14,8 +14,8 @@ ghost use Rattle.irp_orders.specs.Right.{
 
 use crate::facts::answers_of;
 use irp_machine::{Answered, End, LiveEnd, LockEnd, SlotEnd};
-use irp_script::expects_word;
 use irp_script_reader::{ExpectedAnswer, Step};
+use irp_steps::expects_word;
 use irp_types::{Entry, Owner, Reply};
 use std::alloc::{AllocError, Global};
 

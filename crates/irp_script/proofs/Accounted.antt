@@ -1,5 +1,5 @@
 -- What ran accounts for the steps.
-use Rattle.std.proofs.Common.{◌≡◌, ◌≤◌, ◌<◌, ◌+◌, ◌==◌, ◌%◌, ℕ, zero, suc, All, Bool, true, false, cond, eq-eqb, Option, Some, None, List, [], ◌∷◌, ◌++◌, length, map, take, get_or, refl, sym, subst, ap, ◌∙◌, arith}
+use Rattle.std.proofs.Common.{◌≡◌, ◌≤◌, ◌<◌, ◌+◌, ◌==◌, ◌%◌, ℕ, zero, suc, All, Bool, true, cond, eq-eqb, Option, Some, None, List, [], ◌∷◌, ◌++◌, length, map, take, get_or, refl, sym, subst, ap, ◌∙◌, arith}
 use Rattle.std.specs.Prelude.{sum_by}
 use Rattle.std.specs.List.{count_by, enumerate_from, filter, flat_map}
 use Rattle.std.proofs.lemmas.List.{take_all}
@@ -14,7 +14,7 @@ use Rattle.irp_script.specs.Outcomes.{Outcome, Made, Ways, is_own_placed, outcom
 use Rattle.irp_script.specs.Pairs.{Pair}
 use Rattle.irp_script.specs.Words.{WordStep, told_by, word_steps}
 use Rattle.irp_script.specs.declared.stop.Stop.{Stop}
-use Rattle.irp_script.specs.Conditions.{Heard, none_heard}
+use Rattle.irp_steps.specs.Conditions.{Heard, none_heard}
 use Rattle.irp_script.specs.Labels.{Known, known_to, none_bound}
 use Rattle.irp_script.specs.Working.{AtWork, IsOwn, Left, MakesOwn, RunsScript, WorkAfter, WorkApart, Working, working}
 use Rattle.irp_script.proofs.Chains.{chained, rising}

@@ -15,9 +15,9 @@ use Rattle.irp_transcript.specs.declared.word_line.Act.TheVariants as act
 use Rattle.irp_transcript.specs.declared.word_line.WordLine.{WordLine}
 use Rattle.irp_transcript.specs.declared.word_line.WordReply.{WordReply}
 use Rattle.irp_script_reader.specs.declared.act.Step.{Step}
-use Rattle.irp_script.specs.Conditions.{Heard, with_answer}
+use Rattle.irp_steps.specs.Conditions.{Heard, with_answer}
 use Rattle.irp_script.specs.Labels.{Known}
-use Rattle.irp_script.specs.declared.answered.Answered.TheVariants as answer
+use Rattle.irp_steps.specs.declared.answered.Answered.TheVariants as answer
 use Rattle.irp_script.specs.Working.{AtWork, HandsBetween, HandsOver, MakesHand, Tells, working}
 
 -- one is taken out and put in again

@@ -5,7 +5,7 @@ use Rattle.std.proofs.lemmas.List.{append-nil, append_assoc}
 use Rattle.std.proofs.lemmas.List.Elements.{filter_map-append}
 use Rattle.std.proofs.lemmas.List.Sums.{sum_by-cons}
 use Rattle.irp_types.specs.Calls.{Call}
-use Rattle.irp_script.specs.StepKinds.{kind_of}
+use Rattle.irp_steps.specs.StepKinds.{kind_of}
 use Rattle.irp_script.specs.Made.{SeatCalls, NoneTwice, call_by, calls_of, once_made}
 use Rattle.irp_script.specs.Outcomes.{Outcome, nameless_call}
 use Rattle.irp_script.specs.Pairs.{Pair}

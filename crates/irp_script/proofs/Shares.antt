@@ -9,7 +9,7 @@ use Rattle.std.proofs.lemmas.List.Concat.{flat_map-cons}
 use Rattle.std.proofs.lemmas.List.Elements.{filter-append}
 use Rattle.std.proofs.lemmas.List.Sums.{sum_by-append, sum_by-cons}
 use Rattle.irp_script_reader.specs.declared.act.Step.{Step}
-use Rattle.irp_script.specs.StepKinds.{kind_of}
+use Rattle.irp_steps.specs.StepKinds.{kind_of}
 use Rattle.irp_script.specs.Made.{call_by, calls_of}
 use Rattle.irp_script.specs.Outcomes.{Ways, is_own_placed, nameless_call, outcome, way_of}
 use Rattle.irp_script.specs.Words.{WordStep, word_step_of, word_steps}

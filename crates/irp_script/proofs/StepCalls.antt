@@ -9,9 +9,9 @@ use Rattle.irp_transcript.specs.Tokens.{needs_token}
 use Rattle.irp_script_reader.specs.declared.act.StepAct.{StepAct}
 use Rattle.irp_script_reader.specs.declared.act.StepAct.TheVariants.{Call as Made, Allocate, OnLock, Hand, Publish, Withdraw, Request}
 use Rattle.irp_types.specs.declared.call.Call.TheVariants as calls
-use Rattle.irp_script.specs.declared.step_kind.StepKind.{StepKind}
-use Rattle.irp_script.specs.declared.step_kind.StepKind.TheVariants.{Calls}
-use Rattle.irp_script.specs.StepKinds.{call_of, kind_of}
+use Rattle.irp_steps.specs.declared.step_kind.StepKind.{StepKind}
+use Rattle.irp_steps.specs.declared.step_kind.StepKind.TheVariants.{Calls}
+use Rattle.irp_steps.specs.StepKinds.{call_of, kind_of}
 use Rattle.irp_script.specs.Made.{nameless}
 use Rattle.irp_script.specs.Outcomes.{any_packet}
 

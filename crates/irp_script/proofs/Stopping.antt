@@ -11,11 +11,11 @@ use Rattle.irp_manager.specs.declared.not_recorded.NotRecorded.TheVariants as no
 use Rattle.irp_types.specs.declared.seat_act.Hand.{Hand}
 use Rattle.irp_script_reader.specs.declared.act.Step.{Step}
 use Rattle.irp_script.specs.Outcomes.{own_placed}
-use Rattle.irp_script.specs.StepKinds.{kind_of}
+use Rattle.irp_steps.specs.StepKinds.{kind_of}
 use Rattle.irp_script.specs.Stops.{IsAlone, IsUnmade, IsUnrecorded, unrecorded}
 use Rattle.irp_script.specs.Working.{AloneStops, AtWork, HandStops, HasSeat, IsStopAt, MakesBy, MakesEach, MakesHand, MakesOwn, StopsAt, StopsBy, Working, first_stop}
-use Rattle.irp_script.specs.declared.step_kind.StepKind.{StepKind}
-use Rattle.irp_script.specs.declared.step_kind.StepKind.TheVariants.{Calls, OnLock, Hands, OnSlot, Finishes}
+use Rattle.irp_steps.specs.declared.step_kind.StepKind.{StepKind}
+use Rattle.irp_steps.specs.declared.step_kind.StepKind.TheVariants.{Calls, OnLock, Hands, OnSlot, Finishes}
 use Rattle.irp_script.specs.declared.stop.Stop.{Stop}
 use Rattle.irp_script.specs.declared.stop.StopReason.{StopReason}
 

@@ -26,7 +26,7 @@ use Rattle.irp_routines.specs.declared.store.Store.{Store}
 use Rattle.irp_shared.specs.Answered.{AnswersSo}
 use Rattle.irp_script_reader.specs.declared.script.CompletionRoutine.{CompletionRoutine}
 use Rattle.irp_script_reader.specs.declared.script.ScriptParts.{ScriptParts}
-use Rattle.irp_script.specs.Behaviours.{answer_of, plan_of}
+use Rattle.irp_steps.specs.Behaviours.{answer_of, plan_of}
 use Rattle.irp_script.specs.Told.{AnswersAll, AnswersAs, CancelsAnswer, CancelsAs, DispatchesPlan, IsTold, PlansAs, RoutinesAnswer, routines_of}
 
 -- ---- two lists, place by place

@@ -1,10 +1,8 @@
 pub mod Accounts
 pub mod Acts
 pub mod AtSlots
-pub mod Behaviours
 pub mod Between
 pub mod Calling
-pub mod Conditions
 pub mod Labels
 pub mod Made
 pub mod Numbers
@@ -12,7 +10,6 @@ pub mod Outcomes
 pub mod Pairs
 pub mod Ran
 pub mod Seats
-pub mod StepKinds
 pub mod Stops
 pub mod Told
 pub mod Words

@@ -5,7 +5,7 @@ use Rattle.irp_types.specs.Calls.{Call, call_with}
 use Rattle.irp_types.specs.declared.entry.Entry.{Entry}
 use Rattle.irp_manager.specs.Seats.{Seated}
 use Rattle.irp_remove.specs.Seats.{Holder}
-use Rattle.irp_script.specs.StepKinds.{kind_of}
+use Rattle.irp_steps.specs.StepKinds.{kind_of}
 use Rattle.irp_script.specs.Outcomes.{Outcome, any_packet, nameless_call}
 use Rattle.irp_script.specs.Pairs.{Pair, pair_of}
 

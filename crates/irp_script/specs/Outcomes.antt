@@ -1,6 +1,6 @@
 -- How steps come out: each is a call of the manager or has a word line, or is passed over. Which of the first two a
 -- finish of a taken packet is shows when it runs, and so does whether a step with a condition is passed over.
-use Rattle.std.specs.Prelude.{ℕ, ◌==◌, ◌%◌, Bool, if◌then◌else◌, Option, Some, None, List, map}
+use Rattle.std.specs.Prelude.{ℕ, ◌==◌, ◌%◌, Bool, Option, Some, None, List, map}
 use Rattle.std.specs.List.{enumerate_from, filter}
 use Rattle.irp_types.specs.declared.names.IrpRef.{IrpRef}
 use Rattle.irp_types.specs.Calls.{Call}
@@ -10,15 +10,15 @@ use Rattle.irp_transcript.specs.declared.word_line.Act.TheVariants as act
 use Rattle.irp_script_reader.specs.declared.act.Step.{Step}
 use Rattle.irp_script_reader.specs.declared.act.StepAct.{StepAct}
 use Rattle.irp_script_reader.specs.declared.condition.Condition.{Condition}
-use Rattle.irp_script.specs.declared.step_kind.StepKind.{StepKind}
-use Rattle.irp_script.specs.declared.step_kind.StepKind.TheVariants.{
+use Rattle.irp_steps.specs.declared.step_kind.StepKind.{StepKind}
+use Rattle.irp_steps.specs.declared.step_kind.StepKind.TheVariants.{
   Calls,
   OnLock,
   Hands,
   OnSlot,
   Finishes,
 }
-use Rattle.irp_script.specs.StepKinds.{call_of}
+use Rattle.irp_steps.specs.StepKinds.{call_of}
 
 -- how a step comes out: it is made; it is a finish that finds no token; or it is passed over
 pub data Way : Type 0 where

@@ -6,8 +6,8 @@ use Rattle.irp_manager.specs.declared.not_recorded.NotRecorded.{NotRecorded}
 use Rattle.irp_manager.specs.declared.not_recorded.NotRecorded.TheVariants as not_recorded
 use Rattle.irp_slots.specs.Models.{Publisher}
 use Rattle.irp_script.specs.AtSlots.{AtSlots}
-use Rattle.irp_script.specs.declared.step_kind.StepKind.{StepKind}
-use Rattle.irp_script.specs.declared.step_kind.StepKind.TheVariants.{Calls, OnLock, Hands, OnSlot, Finishes}
+use Rattle.irp_steps.specs.declared.step_kind.StepKind.{StepKind}
+use Rattle.irp_steps.specs.declared.step_kind.StepKind.TheVariants.{Calls, OnLock, Hands, OnSlot, Finishes}
 use Rattle.irp_script.specs.declared.stop.StopReason.{StopReason}
 use Rattle.irp_script.specs.declared.stop.StopReason.TheVariants as reason
 

@@ -17,7 +17,7 @@ use Rattle.irp_routines.specs.declared.routine.Routine.{Routine}
 use Rattle.irp_routines.specs.declared.store.Store.{Store}
 use Rattle.irp_script_reader.specs.declared.script.CompletionRoutine.{CompletionRoutine}
 use Rattle.irp_script_reader.specs.declared.script.ScriptParts.{ScriptParts}
-use Rattle.irp_script.specs.Behaviours.{answer_of, plan_of}
+use Rattle.irp_steps.specs.Behaviours.{answer_of, plan_of}
 
 -- ---- questions
 

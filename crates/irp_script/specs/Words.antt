@@ -4,7 +4,7 @@ use Rattle.std.specs.List.{filter_map}
 use Rattle.std.specs.List.Sorted.{IsNonDecreasingBy}
 use Rattle.irp_transcript.specs.declared.word_line.Act.{Act}
 use Rattle.irp_transcript.specs.declared.word_line.WordLine.{WordLine}
-use Rattle.irp_script.specs.StepKinds.{kind_of}
+use Rattle.irp_steps.specs.StepKinds.{kind_of}
 use Rattle.irp_script.specs.Outcomes.{Outcome, told_act}
 
 -- a line's place in the order: by its seat, and of one seat by its step, which is below 2 ^ 32

@@ -1,9 +1,9 @@
 //! What is called when workers begin and end a step. Source: this project's own rule.
 
-ghost use Rattle.irp_script.specs.Conditions.{IsDue};
+ghost use Rattle.irp_steps.specs.Conditions.{IsDue};
 
-use crate::answered::Answered;
 use irp_script_reader::Condition;
+use irp_steps::Answered;
 
 /// A step that a worker makes next.
 #[derive(Clone, Copy)]

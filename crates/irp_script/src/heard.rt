@@ -3,10 +3,10 @@
 ghost use Rattle.std.specs.Prelude.{◌≡◌, IfOk, is_some};
 ghost use Rattle.std.specs.List.{list_any};
 ghost use Rattle.irp_script_reader.specs.declared.act.Step.{Step};
-ghost use Rattle.irp_script.specs.Conditions.{none_heard, with_answer};
+ghost use Rattle.irp_steps.specs.Conditions.{none_heard, with_answer};
 
-use crate::answered::Answered;
 use irp_script_reader::Step;
+use irp_steps::Answered;
 use std::alloc::{AllocError, Global};
 
 /// Whether one of these steps has a condition.

@@ -3,12 +3,12 @@
 ghost use Rattle.std.specs.Prelude.{◌≡◌, ◌<◌, [], All, None};
 ghost use Rattle.irp_script.specs.Seats.{IsAtLocks};
 
-use crate::answered::Answered;
 use crate::labels::Known;
 use crate::script_seat::ScriptSeat;
 use crate::stop::Stop;
 use irp_remove::Locks;
 use irp_shared::{Session, WordLine};
+use irp_steps::Answered;
 use std::alloc::Global;
 
 /// One of so many workers: it has the seats whose numbers leave its own number when divided by how many workers there

@@ -42,25 +42,22 @@ ghost use Rattle.irp_script.specs.Working.{
   if_own,
   news,
 };
-ghost use Rattle.irp_script.specs.Conditions.{holds};
-ghost use Rattle.irp_script.specs.StepKinds.{kind_of};
+ghost use Rattle.irp_steps.specs.Conditions.{holds};
+ghost use Rattle.irp_steps.specs.StepKinds.{kind_of};
 
-use crate::answered::Answered;
-use crate::conditions::{holds, named_answer};
 use crate::gate::{Due, Gate};
 use crate::heard::keep;
 use crate::meeting::Meeting;
 use crate::run_context::RunContext;
 use crate::script_seat::ScriptSeat;
 use crate::seat_steps::tell;
-use crate::step_call::kind_of;
-use crate::step_kind::StepKind;
 use crate::stop::{Stop, StopReason};
 use crate::worker::Worker;
 use irp_remove::Locks;
 use irp_routines::Ask;
 use irp_script_reader::Step;
 use irp_shared::{Act, Session, WordLine, WordReply};
+use irp_steps::{Answered, StepKind, holds, kind_of, named_answer};
 use irp_types::{Hand, LockNo};
 use std::alloc::AllocError;
 use std::sync::Wait;

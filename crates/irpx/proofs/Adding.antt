@@ -13,7 +13,7 @@ use Rattle.irp_script_reader.proofs.Sounds.{all_cancel}
 use Rattle.irp_script_reader.specs.Sound.{known_of, with_all, with_one}
 use Rattle.irp_script_reader.specs.declared.script.CompletionRoutine.{CompletionRoutine}
 use Rattle.irp_script_reader.specs.declared.script.ScriptParts.{ScriptParts}
-use Rattle.irp_script.specs.Behaviours.{cancel_rule_of}
+use Rattle.irp_steps.specs.Behaviours.{cancel_rule_of}
 use Rattle.irpx.specs.Running.{and_cancels, and_dispatches, and_drivers, and_routines}
 
 -- one more item is added: what the tables are of the items so far grows by it

@@ -44,7 +44,7 @@ use Rattle.irp_script_reader.specs.declared.script.Script.{Script}
 use Rattle.irp_script_reader.specs.declared.script.ScriptForm.{ScriptForm}
 use Rattle.irp_script_reader.specs.declared.script.ScriptForm.TheVariants as script_form
 use Rattle.irp_script.specs.Between.{hands_between}
-use Rattle.irp_script.specs.Behaviours.{cancel_rule_of}
+use Rattle.irp_steps.specs.Behaviours.{cancel_rule_of}
 use Rattle.irp_script.specs.Made.{calls_in, calls_of}
 use Rattle.irp_script.specs.Numbers.{EachAsOften, NoneMoreOften}
 use Rattle.irp_script.specs.Outcomes.{Outcome, Ways, outcomes}
@@ -57,6 +57,7 @@ use Rattle.irpx.specs.Writing.{Prints, StopsShort}
 use Rattle.irpx.specs.declared.not_done.NotDone.{NotDone}
 use Rattle.irpx.specs.declared.not_done.NotDone.TheVariants.{
   HandsBetween,
+  LabelsDiffer,
   NoMemory,
   ReceiptsDiffer,
   RefusedScript,
@@ -153,10 +154,12 @@ run_transcript form words transcript = record transcript {
   words = words;
 }
 
--- why there is no transcript of a script that was run: memory ran out, or the seats kept other entries
+-- why there is no transcript of a script that was run: memory ran out, the seats kept other entries, or a step read a
+-- label for another packet than it was bound to
 abbrev pub IsRunningFault : NotDone → Type 0
 IsRunningFault (NoMemory Running) = Unit {0}
 IsRunningFault ReceiptsDiffer = Unit {0}
+IsRunningFault (LabelsDiffer label) = Unit {0}
 IsRunningFault other = ⊥
 
 -- the calls of each seat's entries are those of its own among these, in order: each once and no other, but for the

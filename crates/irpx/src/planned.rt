@@ -3,9 +3,9 @@
 ghost use Rattle.std.specs.Prelude.{◌≡◌, true};
 ghost use Rattle.irp_types.specs.Rules.{is_plan_allowed};
 ghost use Rattle.irp_script_reader.specs.Plans.{is_plan_sound, names_known};
-ghost use Rattle.irp_script.specs.Behaviours.{plan_of};
+ghost use Rattle.irp_steps.specs.Behaviours.{plan_of};
 
-use irp_script::table_plan;
+use irp_steps::table_plan;
 use irp_types::{Known, Plan, Shown};
 
 /// A plan of a script, for a dispatch that may name these routines: it is sound, and its routine is one of them.

@@ -4,14 +4,14 @@ ghost use Rattle.std.specs.Prelude.{◌≡◌, true};
 ghost use Rattle.irp_types.specs.Rules.{CanShow, is_allowed, is_plan_allowed};
 ghost use Rattle.irp_types.specs.declared.answer.{Answer.Answer, CancelAnswer.CancelAnswer, Plan.Plan};
 ghost use Rattle.irp_types.specs.declared.shown.Shown.{Shown};
-ghost use Rattle.irp_script.specs.Behaviours.{answer_of, cancel_rule_of, plan_of};
+ghost use Rattle.irp_steps.specs.Behaviours.{answer_of, cancel_rule_of, plan_of};
 ghost use Rattle.irp_script.specs.Told.{AnswersAs, CancelsAs, PlansAs};
 
 use irp_routines::{
     CancelClosure, CancelRoutine, CompletionClosure, Dispatch, DispatchClosure, Routine,
 };
-use irp_script::cancel_rule;
 use irp_script_reader::CompletionRoutine;
+use irp_steps::cancel_rule;
 use irp_types::{CancelAnswer, Known, Plan};
 
 /// A completion routine with this code, on condition that the code may be called on everything that can be shown,

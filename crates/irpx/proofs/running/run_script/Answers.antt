@@ -12,7 +12,7 @@ use Rattle.irp_script_reader.specs.Plans.{names_known}
 use Rattle.irp_script_reader.specs.Sound.{IsPlan, known_of}
 use Rattle.irp_script_reader.specs.declared.script.CompletionRoutine.{CompletionRoutine}
 use Rattle.irp_script_reader.specs.declared.script.ScriptParts.{ScriptParts}
-use Rattle.irp_script.specs.Behaviours.{cancel_rule_of}
+use Rattle.irp_steps.specs.Behaviours.{cancel_rule_of}
 use Rattle.irp_script.specs.Told.{CancelsAnswer, CancelsAs, DispatchesPlan, PlansAs, RoutinesAnswer}
 use Rattle.irp_script.proofs.Told.{cancels_more, dispatches_more, nothing_told, routines_kept, routines_more}
 use Rattle.irpx.specs.Running.{AfterScript, and_cancels, and_dispatches, and_drivers, and_routines}

@@ -5,7 +5,7 @@ use Rattle.irp_script.specs.Seats.{number_of, seat_at_work, seats_at_work}
 use Rattle.irp_script.specs.declared.stop.StopReason.TheVariants.{NoSeat}
 use Rattle.irp_script.specs.Working.{caught_up, news}
 use Rattle.irp_script.proofs.Places.{told_at}
-use Rattle.irp_script.specs.StepKinds.{kind_of}
+use Rattle.irp_steps.specs.StepKinds.{kind_of}
 use Rattle.irp_script.proofs.Stopping.{by_alone, no_seat, none_of_them}
 use Rattle.irp_script.proofs.Working.{made_none, made_one}
 use Rattle.irp_script.proofs.worker.Worker.step.Goals as goal

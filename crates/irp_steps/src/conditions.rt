@@ -1,11 +1,11 @@
 //! When the condition of a step holds. Source: this project's own rule (docs/FORMATS.md).
 
 ghost use Rattle.std.specs.Prelude.{◌≡◌};
-ghost use Rattle.irp_script.specs.Conditions as spec;
+ghost use Rattle.irp_steps.specs.Conditions as spec;
 
 use crate::answered::Answered;
 use irp_script_reader::{AnswerWord, Condition, ExpectedAnswer};
-use irp_shared::WordReply;
+use irp_transcript::WordReply;
 use irp_types::{CancelId, Reply, Status};
 
 /// Whether the one cancel routine is the other, or there is none of both.

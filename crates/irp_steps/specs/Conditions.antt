@@ -38,8 +38,8 @@ use Rattle.irp_script_reader.specs.declared.condition.{
 use Rattle.irp_script_reader.specs.declared.condition.AnswerWord.TheVariants as word
 use Rattle.irp_script_reader.specs.declared.condition.ExpectedAnswer.TheVariants as expected
 use Rattle.irp_script_reader.specs.declared.act.Step.{Step}
-use Rattle.irp_script.specs.declared.answered.Answered.{Answered}
-use Rattle.irp_script.specs.declared.answered.Answered.TheVariants as answer
+use Rattle.irp_steps.specs.declared.answered.Answered.{Answered}
+use Rattle.irp_steps.specs.declared.answered.Answered.TheVariants as answer
 
 -- ---- the manager's replies
 

@@ -5,7 +5,7 @@ ghost use Rattle.irp_types.specs.Rules.{is_allowed, is_cancel_allowed, is_plan_a
 ghost use Rattle.irp_types.specs.declared.routine.Known.{Known};
 ghost use Rattle.irp_script_reader.specs.Plans.{is_plan_sound, names_known};
 ghost use Rattle.irp_script_reader.specs.Routines.{obeys_its_rule};
-ghost use Rattle.irp_script.specs.Behaviours.{answer_of, behaves_so, cancel_rule_of, plan_of};
+ghost use Rattle.irp_steps.specs.Behaviours.{answer_of, behaves_so, cancel_rule_of, plan_of};
 
 use irp_script_reader::{Behaviour, CompletionRoutine};
 use irp_types::{Answer, CancelAnswer, CancelRule, Plan, Rule, Shown, Status};

@@ -1,7 +1,7 @@
 //! What is read of a step's act: the packet that it names, its kind, and its call.
 
 ghost use Rattle.std.specs.Prelude.{◌≡◌};
-ghost use Rattle.irp_script.specs.StepKinds.{call_of, kind_of, named_by};
+ghost use Rattle.irp_steps.specs.StepKinds.{call_of, kind_of, named_by};
 
 use crate::step_kind::StepKind;
 use irp_script_reader::{Named, StepAct};

@@ -15,8 +15,8 @@ use Rattle.irp_script_reader.specs.declared.act.StepAct.TheVariants.{
   Withdraw,
   Request,
 }
-use Rattle.irp_script.specs.declared.step_kind.StepKind.{StepKind}
-use Rattle.irp_script.specs.declared.step_kind.StepKind.TheVariants as kind
+use Rattle.irp_steps.specs.declared.step_kind.StepKind.{StepKind}
+use Rattle.irp_steps.specs.declared.step_kind.StepKind.TheVariants as kind
 
 -- the packet that an act names
 abbrev pub named_by : StepAct → Option Named

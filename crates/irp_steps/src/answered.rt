@@ -1,6 +1,6 @@
 //! What a step was answered. A file of its own, since definitions that clauses cite name this enum.
 
-use irp_shared::WordReply;
+use irp_transcript::WordReply;
 use irp_types::Reply;
 
 /// What a step was answered: by the manager, or by a remove lock or a cancel slot.

@@ -1,0 +1,4 @@
+pub mod Behaviours
+pub mod Conditions
+pub mod Labels
+pub mod StepKinds
