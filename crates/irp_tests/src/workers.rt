@@ -10,7 +10,7 @@ use crate::tried::{Halt, Tried, wanted};
 use crate::watch::Watch;
 use irp_remove::{Locks, RemoveSeat};
 use irp_routines::{AnswerTable, Ask};
-use irp_script::{ScriptSeat, Worked, run_workers, script_seats};
+use irp_script::{RunFault, ScriptSeat, Worked, run_workers, script_seats};
 use irp_script_reader::{Labels, ScriptForm, ScriptParts};
 use irp_shared::{Seat, Session, Shared, WordLine, WordReply, open};
 use irp_slots::Slots;
@@ -104,7 +104,8 @@ fn run<A: Ask + Send, L: Session + Send + Sync, R: Threads + Wait + Sync>(
         rt, alloc, shared, locks, &slots, pairs, &script, &gate, count,
     ) {
         Ok(worked) => judged(scene, &gate, worked),
-        Err(_) => Err(tried.lost("run_workers")),
+        Err(RunFault::Memory) => Err(tried.lost("run_workers")),
+        Err(RunFault::LabelsDiffer { .. }) => Err(Halt::Wrong("labels differ")),
     }
 }
 
