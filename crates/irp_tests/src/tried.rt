@@ -1,8 +1,7 @@
-//! What became of the one request for memory that is refused.
+//! What became of the one request for memory that is refused, and what ends a scenario.
 
 ghost use Rattle.std.specs.Prelude.{◌≡◌, IfOk};
 
-use irp_routines::NotAdded;
 use std::alloc::{AllocError, AllocFailed};
 use std::io;
 
@@ -33,12 +32,6 @@ impl From<io::Error> for Halt {
     }
 }
 
-impl<T: Drop> From<NotAdded<T>> for Halt {
-    fn from(_refused: NotAdded<T>) -> Halt {
-        Halt::Memory
-    }
-}
-
 /// Ok where something is as it has to be.
 pub fn wanted(is_so: bool, what: &'static str) -> Result<(), Halt> {
     if is_so {
@@ -48,12 +41,12 @@ pub fn wanted(is_so: bool, what: &'static str) -> Result<(), Halt> {
     }
 }
 
-/// Carries a value past something that was done: gives it on where that went well, and lets it go otherwise.
-pub fn carried<T: Drop>(done: Result<(), Halt>, value: T) -> Result<T, Halt>
-    ensures { IfOk result (λ given. given ≡ value) }
+/// Carries a value past something that was done: gives both on where that went well, and lets them go otherwise.
+pub fn carried<D: Drop, T: Drop>(done: Result<D, Halt>, value: T) -> Result<(D, T), Halt>
+    ensures { IfOk result (λ given. given.1 ≡ value) }
 {
     match done {
-        Ok(()) => Ok(value),
+        Ok(done) => Ok((done, value)),
         Err(halt) => Err(halt),
     }
 }

@@ -1,12 +1,17 @@
 //! Worked examples as data.
 
-use irp_remove::{AcquireRefusal, BeginRefusal, DrainRefusal, ReleaseRefusal};
-use irp_types::{Call, CancelAnswer, CancelRule, DispatchId, IrpRef, Limit, Plan, Reply, Rule};
+use irp_remove::{AcquireRefusal, BeginRefusal, DrainRefusal, HandRefusal, ReleaseRefusal};
+use irp_types::{
+    Call, CancelAnswer, CancelRule, DispatchId, IrpRef, Limit, LockNo, Plan, Reply, Rule,
+};
 
 /// The first packet, which examples speak of.
 pub const IRP: IrpRef = IrpRef { slot: 0, use_no: 1 };
 
-/// What is done to the first remove lock, and what it has to be answered.
+/// The one remove lock.
+pub const LOCK: LockNo = LockNo(0);
+
+/// What is done to the remove lock, and what it has to be answered.
 #[derive(Clone, Copy)]
 pub enum Act {
     /// Acquires it with this tag.
@@ -17,28 +22,34 @@ pub enum Act {
     BeginRemove(u32, Result<(), BeginRefusal>),
     /// Asks whether it is drained.
     Drained(Result<(), DrainRefusal>),
+    /// The first seat's reference with this tag goes to the second.
+    Hand(u32, Result<(), HandRefusal>),
 }
 
 /// What a step does, and what it has to be answered.
 #[derive(Clone, Copy)]
 pub enum Deed {
-    /// Makes this call. It is answered so, and so many questions are asked.
+    /// Makes this call. It is answered so, and closures are called that note these digits.
     Call(Call, Reply, u32),
     /// Acts so on the remove lock.
     Act(Act),
+    /// The seat is told that it has seen so many entries. Its call is behind, where the history has this length.
+    Behind(u64, u64),
+    /// The seat makes a call, of whose receipt the seat of this number learns. That one has seen so many entries then.
+    Learn(u32, u64),
 }
 
-/// One who is asked.
+/// One who is asked: its number, and the digit that its closure notes.
 #[derive(Clone, Copy)]
 pub enum Asked {
-    /// A completion routine of this rule.
-    Routine(Rule),
+    /// A completion routine of this rule. Its digit is that and its context.
+    Routine(u32, Rule, u32),
     /// A cancel routine of this rule that answers so.
-    Cancel(CancelRule, CancelAnswer),
+    Cancel(u32, CancelRule, CancelAnswer, u32),
     /// A dispatch that plans so.
-    Dispatch(Plan),
+    Dispatch(u32, Plan, u32),
     /// A driver that has these dispatches by major function code.
-    Driver(&'static [(u8, DispatchId)]),
+    Driver(u32, &'static [(u8, DispatchId)]),
 }
 
 /// An example: who is asked, and the steps.
