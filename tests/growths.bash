@@ -1,14 +1,14 @@
 #!/bin/bash
-# Refuses each request for memory of the program irp_refused_growths, one a run, in each of its scenarios: calls of the library's, with
-# what they have to answer. A run has to print what it prints when nothing is refused, but for its last line, which tells
-# where the refusal fell. Each call that takes memory has to have met one. Each failure has a line of its own.
-# IRP_FAULTS names the program; without it, it is the proved one. Ends with status 0 where all was as expected, else with
+# Refuses each request for memory of the program irp_tests, one a run, in each of its scenarios: calls of the library's,
+# with what they have to answer. A run has to print what it prints when nothing is refused, but for its last line, which
+# tells where the refusal fell. Each call that takes memory has to have met one. Each failure has a line of its own.
+# IRP_TESTS names the program; without it, it is the proved one. Ends with status 0 where all was as expected, else with
 # 1. It passes over all where there is no such program, or no C compiler.
 set -u
 cd "$(dirname "$(readlink -f "$0")")" || exit 1
-program=${IRP_FAULTS:-../crates/irp_refused_growths/out/irp_refused_growths}
+program=${IRP_TESTS:-../crates/irp_tests/out/irp_tests}
 if [ ! -x "$program" ] || ! command -v cc >/dev/null; then
-    echo 'passed over, for want of a proved irp_refused_growths or of a C compiler: each growth of the library refused'
+    echo 'passed over, for want of a proved irp_tests or of a C compiler: each growth of the library refused'
     exit 0
 fi
 room=$(mktemp -d) || exit 1

@@ -11,6 +11,7 @@ pub mod Outcomes
 pub mod Pairs
 pub mod Places
 pub mod Ran
+pub mod Readings
 pub mod Shares
 pub mod Showing
 pub mod Slotted

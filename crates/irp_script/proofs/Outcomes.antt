@@ -23,7 +23,7 @@ use Rattle.irp_steps.specs.StepKinds.{kind_of}
 use Rattle.irp_script.specs.Made.{NoneTwice, SeatCalls, calls_in, nameless, once_made}
 use Rattle.irp_script.specs.Outcomes.{Outcome, Way, Made, Tokenless, Passed, nameless_call, told_act, way_of}
 use Rattle.irp_script.specs.Words.{told_by, word_step, word_step_of}
-use Rattle.irp_script.specs.Working.{AtWork, Does, Makes, MakesAlone, MakesBy, MakesHand, Turns, TurnsBy, Working, applies, caught_up, news}
+use Rattle.irp_script.specs.Working.{AtWork, Does, MakesAlone, MakesBy, MakesHand, Turns, TurnsBy, Working, applies, caught_up, news}
 use Rattle.irp_script.proofs.Making.{called_at}
 use Rattle.irp_script.proofs.Numbers.{map_set_same}
 use Rattle.irp_script.proofs.StepCalls.{nameless_of}
@@ -70,21 +70,21 @@ came_out count place step (OnLock on) old new lines longer known learnt (answer.
   calls = no_call_more old new (ap (λ own. own.seat) did.rest);
 }
 came_out count place step (OnSlot on) old new lines longer known learnt (answer.Reply reply) did = absurd did
-came_out count place step (OnSlot on) old new lines longer known learnt (answer.Word reply) (unlearnt, did) = record {
+came_out count place step (OnSlot on) old new lines longer known learnt (answer.Word reply) did = record {
   way = Made;
   always = refl;
   told = one_told lines longer _ did.told;
   pair = ap pair_at did.rest;
   calls = no_call_more old new (ap (λ own. own.seat) did.rest);
 }
-came_out count place step (Finishes slot status information) old new lines longer known learnt (answer.Reply reply) (unlearnt, did) = record {
+came_out count place step (Finishes slot status information) old new lines longer known learnt (answer.Reply reply) did = record {
   way = Made;
   always = refl;
   told = none_told lines longer did.silent;
   pair = λ i. record { seat = did.recorded.recorded.kept.number i; table = (did.rest i).remove.table; remove = (did.rest i).remove.number };
   calls = one_call old.seat.entries new.seat.entries did.recorded.recorded.entry _ did.recorded.recorded.kept.entries did.recorded.recorded.of_call.asks;
 }
-came_out count place step (Finishes slot status information) old new lines longer known learnt (answer.Word reply) (unlearnt, (no_token, did)) = record {
+came_out count place step (Finishes slot status information) old new lines longer known learnt (answer.Word reply) (unlearnt, no_token, did) = record {
   way = Tokenless;
   always = refl;
   told = one_told lines longer _ did.told;

@@ -1,6 +1,6 @@
 -- What a worker makes of its seats and lines, step by step, and what the workers of a script make together.
 use Rattle.std.proofs.Common.{◌≡◌, ◌<◌, ◌+◌, ◌%◌, ◌==◌, ℕ, zero, suc, All, Bool, true, false, cond, eq-eqb, Option, Some, None, List, [], ◌∷◌, ◌++◌, length, map, take, get_or, set, refl, sym, subst, ap, ◌∙◌, arith}
-use Rattle.std.specs.Prelude.{IfOk, MatchResult, OnErr, Result, Ok, Err, nat_lt, slice_get, slice_set, sum_by}
+use Rattle.std.specs.Prelude.{IfOk, MatchResult, Result, Ok, Err, nat_lt, slice_get, slice_set, sum_by}
 use Rattle.std.specs.Option.{option_map, unwrap_or}
 use Rattle.std.specs.List.{count_by, enumerate_from, filter, flat_map}
 use Rattle.std.proofs.lemmas.Bool.{le-ltb}
@@ -8,6 +8,7 @@ use Rattle.std.proofs.lemmas.List.{get_or-map, length-map, length-take-le, map-s
 use Rattle.std.proofs.lemmas.List.Elements.{All-nil, All-cons, All-head, All-tail, filter-append}
 use Rattle.std.proofs.lemmas.List.Concat.{flat_map-cons}
 use Rattle.std.proofs.lemmas.List.Sums.{sum_by-append, sum_by-cons}
+use Rattle.std.proofs.lemmas.Simd.{map-map}
 use Rattle.std.proofs.lemmas.Option.{get_or_from_slice_get, none-some, slice_get-get_or, slice_get-map, slice_get_within}
 use Rattle.irp_types.specs.declared.names.IrpRef.{IrpRef}
 use Rattle.irp_types.specs.declared.names.LockNo.{LockNo}
@@ -29,7 +30,7 @@ use Rattle.irp_script.specs.AtSlots.{AtSlots, fresh}
 use Rattle.irp_script.specs.Calling.{CallsFor, found_drained}
 use Rattle.irp_steps.specs.Conditions.{Heard, none_heard, with_answer}
 use Rattle.irp_steps.specs.declared.answered.Answered.{Answered}
-use Rattle.irp_script.specs.Labels.{IsNamed, Known, known_to}
+use Rattle.irp_script.specs.Labels.{AreFounded, IsNamed, Known, known_reading, known_to}
 use Rattle.irp_steps.specs.StepKinds.{kind_of}
 use Rattle.irp_script.specs.Stops.{IsUnmade, IsUnrecorded}
 use Rattle.irp_script.specs.declared.stop.Stop.{Stop}
@@ -72,13 +73,13 @@ pub call_stays : (before after : Seated) (remove remove_after : Holder) (parties
 call_stays before after remove remove_after parties parties_after same same_remove same_parties =
     λ i. record { seat = roomless_same before after same i; remove = same_remove i; parties = same_parties i }
 
-pub call_made : (result : Result Reply StopReason) (step : Step) (before after : Seated) (remove remove_after : Holder) (parties parties_after : AtSlots) (lines longer : List WordLine) (known learnt : Known)
-    → MatchResult result (λ reply. CallsFor step.act remove before after known learnt reply) (λ why. IsAsBefore before after × IsUnrecorded before.seen why) → remove_after ≡ remove → parties_after ≡ parties → longer ≡ lines
-    → MatchResult result (λ reply. MakesCall step (at_work before remove parties) (at_work after remove_after parties_after) lines longer known learnt reply)
+pub call_made : (result : Result Reply StopReason) (place : ℕ) (step : Step) (before after : Seated) (remove remove_after : Holder) (parties parties_after : AtSlots) (lines longer : List WordLine) (known learnt : Known)
+    → MatchResult result (λ reply. CallsFor place step.act remove before after known learnt reply) (λ why. IsAsBefore before after × IsUnrecorded before.seen why) → remove_after ≡ remove → parties_after ≡ parties → longer ≡ lines
+    → MatchResult result (λ reply. MakesCall place step (at_work before remove parties) (at_work after remove_after parties_after) lines longer known learnt reply)
     (λ why. Stays (at_work before remove parties) (at_work after remove_after parties_after) lines longer × IsUnrecorded before.seen why)
-call_made (Err why) step before after remove remove_after parties parties_after lines longer known learnt same same_remove same_parties silent =
+call_made (Err why) place step before after remove remove_after parties parties_after lines longer known learnt same same_remove same_parties silent =
     ((call_stays before after remove remove_after parties parties_after same.0 same_remove same_parties, silent), same.1)
-call_made (Ok one) step before after remove remove_after parties parties_after lines longer known learnt calls same_remove same_parties silent = record {
+call_made (Ok one) place step before after remove remove_after parties parties_after lines longer known learnt calls same_remove same_parties silent = record {
   called = record { call = calls.call; receipt = calls.receipt; of_act = calls.of_act; recorded = roomless_called before after calls.call (found_drained remove) calls.receipt calls.recorded; told = calls.told; bound = calls.bound };
   rest = λ i. record { seat = roomless after; remove = same_remove i; parties = same_parties i };
   silent = silent;
@@ -102,22 +103,23 @@ put_again slot place parties between after one back given out in_again same =
     ∙ ap (λ (token : Option Token). with_taken parties (slice_set parties.taken place (held_token slot token))) same
 
 -- a finish that was recorded
-pub finish_made : (step : Step) (slot : ℕ) (status : Status) (information : ℕ) (before after : Seated) (remove remove_after : Holder) (parties between parties_after : AtSlots) (lines longer : List WordLine) (known : Known)
+pub finish_made : (index : ℕ) (step : Step) (slot : ℕ) (status : Status) (information : ℕ) (before after : Seated) (remove remove_after : Holder) (parties between parties_after : AtSlots) (lines longer : List WordLine) (known learnt : Known)
     (place : ℕ) (token : Token) (irp : IrpRef) (receipt : Receipted) (back : Option Token) (reply : Reply)
-    → slice_get parties.taken place ≡ Some (fresh slot token) → IsNamed known step.act irp → Called before (FinishTaken irp token.use_no status information) (λ lock. false) receipt after
+    → slice_get parties.taken place ≡ Some (fresh slot token) → IsNamed known step.act irp → learnt ≡ known_reading index known step.act irp → Called before (FinishTaken irp token.use_no status information) (λ lock. false) receipt after
     → back ≡ given_back receipt.reply token → remove_after ≡ remove
     → between ≡ record parties { taken = slice_set parties.taken place (record { slot = slot; token = None }) }
     → parties_after ≡ record between { taken = slice_set between.taken place (record { slot = slot; token = back }) }
     → longer ≡ lines → reply ≡ receipt.reply
-    → FinishesTaken step slot status information (at_work before remove parties) (at_work after remove_after parties_after) lines longer known reply
-finish_made step slot status information before after remove remove_after parties between parties_after lines longer known place token irp receipt back reply there named recorded given same_remove out in_again silent told =
+    → FinishesTaken index step slot status information (at_work before remove parties) (at_work after remove_after parties_after) lines longer known learnt reply
+finish_made index step slot status information before after remove remove_after parties between parties_after lines longer known learnt place token irp receipt back reply there named noted recorded given same_remove out in_again silent told =
     record {
-      place = place;
+      taken_at = place;
       token = token;
       irp = irp;
       receipt = receipt;
       there = there;
       named = named;
+      noted = noted;
       recorded = roomless_called before after (FinishTaken irp token.use_no status information) (λ lock. false) receipt recorded;
       told = told;
       rest =
@@ -283,10 +285,10 @@ All-mapped f P (x ∷ xs) each = All-cons P (f x) (map f xs) (All-head (λ s. P 
 abbrev left_of : {S W : Type 0} → (S → AtWork) → (W → List S) → (W → List WordLine) → (W → Known) → (W → Heard) → (W → Option Stop) → W → Left
 left_of f seats_of lines_of known_of heard_of stopped_of w = record { work = working (map f (seats_of w)) (lines_of w) (known_of w) (heard_of w); stop = stopped_of w }
 
--- what follows of each answer by three facts follows where there is one
-pub if_ok_all : {T E : Type 0} (result : Result T E) {P Q R S : T → Type 0} → ((value : T) → P value → Q value → R value → S value) → IfOk result P → IfOk result Q → IfOk result R → IfOk result S
-if_ok_all (Ok value) step one two three = step value one two three
-if_ok_all (Err fault) step one two three = one
+-- what follows of each answer by four facts follows where there is one
+pub if_ok_all : {T E : Type 0} (result : Result T E) {P Q R N S : T → Type 0} → ((value : T) → P value → Q value → R value → N value → S value) → IfOk result P → IfOk result Q → IfOk result R → IfOk result N → IfOk result S
+if_ok_all (Ok value) step one two three four = step value one two three four
+if_ok_all (Err fault) step one two three four = one
 
 -- workers that seats were dealt to, and what is gathered of what they left
 pub work_apart : {S W : Type 0} (f : S → AtWork) (seats_of : W → List S) (lines_of : W → List WordLine) (known_of : W → Known) (heard_of : W → Heard) (stopped_of : W → Option Stop) (count workers : ℕ) (steps : List Step) (known : Known) (ready : List S) (groups done : List W) (after : List S) (lines : List WordLine) (stopped : Option Stop)
@@ -297,8 +299,9 @@ pub work_apart : {S W : Type 0} (f : S → AtWork) (seats_of : W → List S) (li
     → ((test : S → Bool) → count_by test after ≡ sum_by (λ worker. count_by test (seats_of worker)) done)
     → ((test : WordLine → Bool) → count_by test lines ≡ sum_by (λ worker. count_by test (lines_of worker)) done)
     → stopped ≡ first_stop stopped_of done
+    → AreFounded known.packets (map known_of done)
     → WorkApart count workers steps known (map f ready) (map f after) lines stopped
-work_apart f seats_of lines_of known_of heard_of stopped_of count workers steps known ready groups done after lines stopped grouped counted dealt own made gathered told halted =
+work_apart f seats_of lines_of known_of heard_of stopped_of count workers steps known ready groups done after lines stopped grouped counted dealt own made gathered told halted founded =
     record {
       dealt = map (λ w. map f (seats_of w)) groups;
       left = map (left_of f seats_of lines_of known_of heard_of stopped_of) done;
@@ -327,4 +330,5 @@ work_apart f seats_of lines_of known_of heard_of stopped_of count workers steps 
           ∙ sym (count_pieces test (λ (one : Left). one.work.seats) (left_of f seats_of lines_of known_of heard_of stopped_of) (λ w. count_by (λ s. test (f s)) (seats_of w)) (λ w. count_map f test (seats_of w)) done);
       told = λ test. told test ∙ sym (count_pieces test (λ (one : Left). one.work.lines) (left_of f seats_of lines_of known_of heard_of stopped_of) (λ w. count_by test (lines_of w)) (λ w. refl) done);
       halted = halted ∙ sym (first_map (λ (one : Left). one.stop) (left_of f seats_of lines_of known_of heard_of stopped_of) done);
+      labels = subst (AreFounded known.packets) (sym (map-map (λ (one : Left). one.work.known) (left_of f seats_of lines_of known_of heard_of stopped_of) done)) founded;
     }

@@ -1,5 +1,5 @@
 -- What acts on remove locks and cancel slots do to seats, by what they were answered.
-use Rattle.std.specs.Prelude.{ℕ}
+use Rattle.std.specs.Prelude.{ℕ, ◌≡◌}
 use Rattle.irp_remove.specs.Calls.{
   Acquired,
   AcquireRefused,
@@ -32,7 +32,7 @@ use Rattle.irp_types.specs.declared.seat_act.LockAct.TheVariants.{
 }
 use Rattle.irp_types.specs.declared.seat_act.SlotAct.{SlotAct}
 use Rattle.irp_types.specs.declared.seat_act.SlotAct.TheVariants.{Publish, Withdraw, Request}
-use Rattle.irp_script.specs.Labels.{IsNamed, Known}
+use Rattle.irp_script.specs.Labels.{IsNamed, Known, known_reading}
 
 -- an acquisition, of so many locks
 abbrev pub AcquireActs : ℕ → ℕ → ℕ → Holder → Holder → WordReply → Type 0
@@ -93,9 +93,12 @@ HandActs count lock tag giver giver_after taker taker_after answered.SeatFull =
     HandRefused count lock tag giver giver_after taker taker_after hand.SeatFull
 HandActs count lock tag giver giver_after taker taker_after other = ⊥
 
--- an act on a slot did that, of the packet that the step names by what is known of the labels
-abbrev pub SlotActs : Known → StepAct → SlotAct → AtSlots → AtSlots → WordReply → Type 0
-SlotActs known act (Publish slot) before after reply =
-    (irp : IrpRef) × IsNamed known act irp × Publishing slot irp.use_no before after reply
-SlotActs known act (Withdraw slot) before after reply = Withdrawing slot before after reply
-SlotActs known act (Request slot) before after reply = Requesting slot before after reply
+-- the act of a step of this place on a slot did that, of the packet that it names by what is known of the labels
+abbrev pub SlotActs : ℕ → Known → Known → StepAct → SlotAct → AtSlots → AtSlots → WordReply → Type 0
+SlotActs place known learnt act (Publish slot) before after reply =
+    (irp : IrpRef) × IsNamed known act irp × (learnt ≡ known_reading place known act irp)
+    × Publishing slot irp.use_no before after reply
+SlotActs place known learnt act (Withdraw slot) before after reply =
+    (learnt ≡ known) × Withdrawing slot before after reply
+SlotActs place known learnt act (Request slot) before after reply =
+    (learnt ≡ known) × Requesting slot before after reply

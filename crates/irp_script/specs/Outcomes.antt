@@ -1,6 +1,6 @@
 -- How steps come out: each is a call of the manager or has a word line, or is passed over. Which of the first two a
 -- finish of a taken packet is shows when it runs, and so does whether a step with a condition is passed over.
-use Rattle.std.specs.Prelude.{ℕ, ◌==◌, ◌%◌, Bool, if◌then◌else◌, Option, Some, None, List, map}
+use Rattle.std.specs.Prelude.{ℕ, ◌==◌, ◌%◌, Bool, Option, Some, None, List, map}
 use Rattle.std.specs.List.{enumerate_from, filter}
 use Rattle.irp_types.specs.declared.names.IrpRef.{IrpRef}
 use Rattle.irp_types.specs.Calls.{Call}

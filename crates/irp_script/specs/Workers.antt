@@ -1,5 +1,5 @@
 -- What clauses read of workers.
-use Rattle.std.specs.Prelude.{ℕ, ◌≡◌, ◌%◌, All, Bool, List, [], None, sum_by}
+use Rattle.std.specs.Prelude.{ℕ, ◌≡◌, ◌%◌, All, Bool, List, [], None, map, sum_by}
 use Rattle.std.specs.List.{count_by}
 use Rattle.irp_remove.specs.declared.table.Locks.{Locks}
 use Rattle.irp_transcript.specs.declared.word_line.WordLine.{WordLine}
@@ -14,6 +14,10 @@ use Rattle.irp_script.specs.Working.{MakesOwn, Working, working}
 -- its seats as they are at work, its word lines, what it knows of the labels, and what its steps were answered
 abbrev pub work_of : {L : _} {session : _} → Worker L session → Working
 work_of worker = working (seats_at_work worker.seats.items) worker.words.items worker.known worker.heard.items
+
+-- what each of some knows of the labels
+abbrev pub knowns_of : {L : _} {session : _} → List (Worker L session) → List Known
+knowns_of workers = map (λ worker. worker.known) workers
 
 -- it has the same number among as many workers, at the same locks, and goes on as it did
 abbrev pub IsSameWorker : {L : _} {session : _}

@@ -64,7 +64,7 @@ use Rattle.irp_script.specs.Acts.{Acts, HandActs, SlotActs}
 use Rattle.irp_script.specs.AtSlots.{AtSlots, IsSpent, fresh}
 use Rattle.irp_script.specs.Calling.{CallsFor}
 use Rattle.irp_steps.specs.Conditions.{Heard, holds, none_heard, with_answer}
-use Rattle.irp_script.specs.Labels.{IsNamed, Known, known_to, none_bound}
+use Rattle.irp_script.specs.Labels.{AreFounded, IsNamed, Known, known_reading, known_to, none_bound}
 use Rattle.irp_steps.specs.StepKinds.{kind_of}
 use Rattle.irp_script.specs.Outcomes.{is_own_step, own_placed}
 use Rattle.irp_script.specs.Numbers.{EachAsOften}
@@ -108,9 +108,9 @@ abbrev pub Stays : AtWork → AtWork → List WordLine → List WordLine → Typ
 Stays before after lines longer = (after ≡ before) × (longer ≡ lines)
 
 -- a call that was answered so, with what the seat's own remove seat knew of the locks
-pub record MakesCall (step : Step) (before after : AtWork) (lines longer : List WordLine) (known learnt : Known)
-    (reply : Reply) : Type 0 where
-  pub called : CallsFor step.act before.remove before.seat after.seat known learnt reply
+pub record MakesCall (place : ℕ) (step : Step) (before after : AtWork) (lines longer : List WordLine)
+    (known learnt : Known) (reply : Reply) : Type 0 where
+  pub called : CallsFor place step.act before.remove before.seat after.seat known learnt reply
   pub rest : after ≡ record before { seat = after.seat }
   pub silent : longer ≡ lines
 
@@ -124,28 +124,29 @@ pub record ActsOnLock (count place : ℕ) (step : Step) (on : LockAct) (before a
 
 -- an act on a cancel slot that was answered so, and its line
 pub record ActsOnSlot (place : ℕ) (step : Step) (on : SlotAct) (before after : AtWork)
-    (lines longer : List WordLine) (known : Known) (reply : WordReply) : Type 0 where
-  pub did : SlotActs known step.act on before.parties after.parties reply
+    (lines longer : List WordLine) (known learnt : Known) (reply : WordReply) : Type 0 where
+  pub did : SlotActs place known learnt step.act on before.parties after.parties reply
   pub rest : after ≡ record before { parties = after.parties }
   pub told : Tells place step (act.OnSlot on) reply lines longer
 
 -- a finish with a token that the seat took from the slot, and has not spent: one call, of this token's number. The
 -- token is left in its place where it comes back
-pub record FinishesTaken (step : Step) (slot : ℕ) (status : Status) (information : ℕ)
-    (before after : AtWork) (lines longer : List WordLine) (known : Known) (reply : Reply) : Type 0 where
-  pub place : ℕ
+pub record FinishesTaken (place : ℕ) (step : Step) (slot : ℕ) (status : Status) (information : ℕ)
+    (before after : AtWork) (lines longer : List WordLine) (known learnt : Known) (reply : Reply) : Type 0 where
+  pub taken_at : ℕ
   pub token : Token
   pub irp : IrpRef
   pub receipt : Receipted
-  pub there : slice_get before.parties.taken place ≡ Some (fresh slot token)
+  pub there : slice_get before.parties.taken taken_at ≡ Some (fresh slot token)
   pub named : IsNamed known step.act irp
+  pub noted : learnt ≡ known_reading place known step.act irp
   pub recorded : Called before.seat (FinishTaken irp token.use_no status information)
       (λ lock. false) receipt after.seat
   pub told : reply ≡ receipt.reply
   pub rest : after ≡ record before {
     seat = after.seat;
     parties = record before.parties {
-      taken = slice_set before.parties.taken place
+      taken = slice_set before.parties.taken taken_at
           (record { slot = slot; token = given_back receipt.reply token });
     };
   }
@@ -159,25 +160,25 @@ pub record FindsNoToken (place : ℕ) (step : Step) (slot : ℕ) (before after :
   pub told : Tells place step (act.FinishTaken slot) NoToken lines longer
 
 -- a finish of either kind that was answered so
-abbrev pub Finishing : ℕ → Step → ℕ → Status → ℕ → AtWork → AtWork → List WordLine → List WordLine → Known → Answered
-    → Type 0
-Finishing place step slot status information before after lines longer known (answer.Reply reply) =
-    FinishesTaken step slot status information before after lines longer known reply
-Finishing place step slot status information before after lines longer known (answer.Word reply) =
-    (reply ≡ NoToken) × FindsNoToken place step slot before after lines longer
+abbrev pub Finishing : ℕ → Step → ℕ → Status → ℕ → AtWork → AtWork → List WordLine → List WordLine → Known → Known
+    → Answered → Type 0
+Finishing place step slot status information before after lines longer known learnt (answer.Reply reply) =
+    FinishesTaken place step slot status information before after lines longer known learnt reply
+Finishing place step slot status information before after lines longer known learnt (answer.Word reply) =
+    (learnt ≡ known) × (reply ≡ NoToken) × FindsNoToken place step slot before after lines longer
 
 -- What a step of this place does to its own seat, to the lines and to what is known of the labels, where it is answered
 -- so: a call by the manager, others by a remove lock or a cancel slot. A hand does more
 abbrev pub Does : ℕ → ℕ → Step → StepKind → AtWork → AtWork → List WordLine → List WordLine → Known → Known → Answered
     → Type 0
 Does count place step Calls before after lines longer known learnt (answer.Reply reply) =
-    MakesCall step before after lines longer known learnt reply
+    MakesCall place step before after lines longer known learnt reply
 Does count place step (OnLock on) before after lines longer known learnt (answer.Word reply) =
     (learnt ≡ known) × ActsOnLock count place step on before after lines longer reply
 Does count place step (OnSlot on) before after lines longer known learnt (answer.Word reply) =
-    (learnt ≡ known) × ActsOnSlot place step on before after lines longer known reply
+    ActsOnSlot place step on before after lines longer known learnt reply
 Does count place step (Finishes slot status information) before after lines longer known learnt given =
-    (learnt ≡ known) × Finishing place step slot status information before after lines longer known given
+    Finishing place step slot status information before after lines longer known learnt given
 Does count place step other before after lines longer known learnt given = ⊥
 
 -- the seat has seen so many entries of the history, or more if it had seen more
@@ -336,7 +337,8 @@ first_stop told_by [] = None
 first_stop told_by (worker ∷ others) = option_or (told_by worker) (first_stop told_by others)
 
 -- each seat was dealt to the one of so many workers whose own it is, each worker made its own steps, and what they left
--- was gathered
+-- was gathered. Each label that another worker binds was read to stand for what it stood for before the steps, or for
+-- what a step bound it to
 pub record WorkApart (count workers : ℕ) (steps : List Step) (known : Known) (ready after : List AtWork)
     (lines : List WordLine) (stop : Option Stop) : Type 0 where
   pub dealt : List (List AtWork)
@@ -352,6 +354,7 @@ pub record WorkApart (count workers : ℕ) (steps : List Step) (known : Known) (
   pub back : EachAsOften (flat_map (λ (one : Left). one.work.seats) left) after
   pub told : EachAsOften (flat_map (λ (one : Left). one.work.lines) left) lines
   pub halted : stop ≡ first_stop (λ (one : Left). one.stop) left
+  pub labels : AreFounded known.packets (map (λ (one : Left). one.work.known) left)
 
 -- what came behind the setup: nothing, where its worker stopped, which is told; and else the steps
 abbrev pub WorkAfter : Option Stop → ℕ → ℕ → List Step → Known → List AtWork → List AtWork

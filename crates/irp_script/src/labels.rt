@@ -1,21 +1,30 @@
 //! The labels of a script while it runs.
 
-ghost use Rattle.std.specs.Prelude.{◌≡◌, ◌<◌, IfOk};
-ghost use Rattle.irp_steps.specs.Labels.{learned};
+ghost use Rattle.std.specs.Prelude.{◌≡◌, ◌<◌, IfOk, is_some, slice_get, slice_set};
+ghost use Rattle.std.specs.List.{list_any};
+ghost use Rattle.std.specs.Option.{option_flatten};
+ghost use Rattle.irp_steps.specs.Labels.{label_at, label_of, learned};
 ghost use Rattle.irp_steps.specs.StepKinds.{named_by};
 ghost use Rattle.irp_script.specs.Labels.{
   IsNamed,
+  binding_of,
+  binds_label,
   known_behind,
+  known_reading,
   known_to,
   label_apart,
+  label_named,
   marked,
   marks_apart,
   names_apart,
   none_bound,
+  none_kept,
+  reading_of,
 };
 
+use crate::binding::Binding;
 use irp_script_reader::{Named, Step, StepAct};
-use irp_steps::{UNBOUND, label_of, named_by, packet_in, packet_of};
+use irp_steps::{UNBOUND, label_at, label_of, named_by, packet_in, packet_of};
 use irp_types::{IrpRef, Reply};
 use std::alloc::{AllocError, Global};
 use std::marker::Model;
@@ -27,12 +36,32 @@ pub struct Bindings {
     packets: Vec<IrpRef>,
 }
 
+/// A step that bound a label: the number of its worker, and its place.
+#[derive(Clone, Copy)]
+pub struct Source {
+    pub worker: u32,
+    pub place: u32,
+}
+
+/// A packet that an act names. Where it names it by a label that all workers share, also the step that is told to have
+/// bound that label, if one of theirs did.
+#[derive(Clone, Copy)]
+pub struct NamedPacket {
+    pub irp: IrpRef,
+    source: Option<Source>,
+}
+
 /// What a worker knows of the labels of a script: what each stands for by the steps of the setup and by its own, and
-/// which of them other workers bind.
+/// which of them other workers bind. By the places of its steps it also keeps what they bound, and what they read of
+/// labels that other workers bind, with the step that is told to have bound it.
 #[derive(Drop)]
 pub struct Known {
+    number: u32,
     bindings: Bindings,
     apart: Vec<bool>,
+    written: Vec<Option<Binding>>,
+    read: Vec<Option<Binding>>,
+    sources: Vec<Option<Source>>,
 }
 
 impl Model for Known {
@@ -40,13 +69,24 @@ impl Model for Known {
 
     ghost Value = { Knows };
 
-    ghost view = { λ known. record { packets = known.bindings.packets.items; apart = known.apart.items } };
+    ghost view = { λ known. record {
+      packets = known.bindings.packets.items;
+      apart = known.apart.items;
+      written = known.written.items;
+      read = known.read.items;
+    } };
+}
+
+/// The packet that each label of a run stands for.
+#[derive(Drop)]
+struct SharedBindings {
+    packets: Vec<NamedPacket>,
 }
 
 /// The labels of a run, for those that several workers bind or read. All workers share them.
 #[derive(Drop)]
 pub struct Labels {
-    bindings: Mutex<Bindings>,
+    bindings: Mutex<SharedBindings>,
 }
 
 /// The label that a step binds, if it is one of another one of so many workers.
@@ -58,6 +98,40 @@ fn label_apart(number: u32, workers: u32, step: Step) -> Option<usize>
         return None;
     }
     label_of(step.act)
+}
+
+/// Whether an act binds a label.
+fn binds_label(act: StepAct) -> bool
+    ensures { result ≡ is_some (label_of act) }
+{
+    label_of(act).is_some()
+}
+
+/// Whether one of these steps binds a label.
+fn bind_labels(steps: &[Step]) -> bool
+    ensures { result ≡ list_any binds_label steps.now }
+{
+    steps.iter().any(|step| binds_label(step.act))
+}
+
+/// The label by which an act names its packet. None for an act that doesn't.
+fn label_named(act: StepAct) -> Option<usize>
+    ensures { result ≡ label_named (named_by act) }
+{
+    match named_by(act) {
+        Some(Named::Label(label)) => Some(label),
+        _ => None,
+    }
+}
+
+/// The label with the packet, where there are both.
+fn binding_of(label: Option<usize>, irp: Option<IrpRef>) -> Option<Binding>
+    ensures { result ≡ binding_of label irp }
+{
+    match (label, irp) {
+        (Some(label), Some(irp)) => Some(Binding { label, irp }),
+        _ => None,
+    }
 }
 
 impl Bindings {
@@ -106,8 +180,44 @@ fn bound_apart(
     Ok(apart)
 }
 
+/// Room for what so many workers' steps bind and read of labels that they share, of which nothing was made yet. Where
+/// there is one worker, or no step binds a label, it takes no memory.
+fn none_kept(
+    alloc: Global,
+    workers: u32,
+    steps: &[Step],
+) -> Result<Vec<Option<Binding>>, AllocError>
+    ensures { IfOk result (λ kept. kept.items ≡ none_kept workers steps.now) }
+{
+    if workers <= 1 {
+        return Ok(Vec::new(alloc));
+    }
+    if !bind_labels(steps) {
+        return Ok(Vec::new(alloc));
+    }
+    Ok(vec![in alloc; None; steps.len()]?)
+}
+
+/// Keeps what the step of this place bound or read, where this is kept. It takes no memory.
+fn keep_at(kept: &mut Vec<Option<Binding>>, place: u32, binding: Option<Binding>)
+    ensures { kept.new.items ≡ slice_set kept.old.items place binding }
+{
+    let place = place as usize;
+    if place < kept.len() {
+        kept[place] = binding;
+    }
+}
+
+/// Keeps which step is told to have bound what the step of this place read.
+fn tell_source(sources: &mut Vec<Option<Source>>, place: u32, source: Option<Source>) {
+    let place = place as usize;
+    if place < sources.len() {
+        sources[place] = source;
+    }
+}
+
 impl Known {
-    /// So many labels, of which none is bound, and which no other worker binds.
+    /// So many labels, of which none is bound, and which no other worker binds. What steps bind and read isn't kept.
     ///
     /// # Errors
     ///
@@ -117,12 +227,17 @@ impl Known {
     {
         let packets = vec![in alloc; UNBOUND; count]?;
         Ok(Known {
+            number: 0,
             bindings: Bindings { packets },
             apart: Vec::new(alloc),
+            written: Vec::new(alloc),
+            read: Vec::new(alloc),
+            sources: Vec::new(alloc),
         })
     }
 
-    /// What one of so many workers knows where these steps begin, of which it makes its own.
+    /// What one of so many workers knows where these steps begin, of which it makes its own. There is room for all that
+    /// they bind and read of labels that workers share.
     ///
     /// # Errors
     ///
@@ -139,9 +254,16 @@ impl Known {
     {
         let packets = self.bindings.packets.to_vec(alloc)?;
         let apart = bound_apart(alloc, packets.len(), number, workers, steps)?;
+        let written = none_kept(alloc, workers, steps)?;
+        let read = none_kept(alloc, workers, steps)?;
+        let sources = vec![in alloc; None; read.len()]?;
         Ok(Known {
+            number,
             bindings: Bindings { packets },
             apart,
+            written,
+            read,
+            sources,
         })
     }
 
@@ -158,24 +280,102 @@ impl Known {
         }
     }
 
-    /// The packet that an act names, by what is known, or at that moment by the labels of the run where another worker
-    /// binds the label; where it names none, one that is never live. No clause names what lies under the labels' lock.
-    pub fn packet_of(&self, rt: &impl Wait, labels: &Labels, act: StepAct) -> IrpRef
-        ensures { IsNamed self.now act result }
+    /// The label by which an act names this packet, with the packet, where another worker binds that label.
+    fn reading(&self, act: StepAct, irp: IrpRef) -> Option<Binding>
+        ensures { result ≡ reading_of self.now.apart act irp }
     {
-        if self.is_apart(act) {
-            return labels.packet_of(rt, act);
+        if !self.is_apart(act) {
+            return None;
         }
-        packet_of(self.bindings.packets.as_slice(), act)
+        binding_of(label_named(act), Some(irp))
     }
 
-    /// The label that an act binds stands for the packet that it was answered by, if it was, from now on: for the
-    /// worker, and among the labels of the run.
-    pub fn learn(&mut self, rt: &impl Wait, labels: &Labels, act: StepAct, reply: Reply)
-        ensures { self.new ≡ known_behind self.old act reply }
+    /// The packet that an act names, by what is known, or at that moment by the labels of the run where another worker
+    /// binds the label; where it names none, one that is never live. No clause here names what lies under the labels'
+    /// lock: what was read is looked up once all workers are done.
+    pub fn packet_of(&self, rt: &impl Wait, labels: &Labels, act: StepAct) -> NamedPacket
+        ensures { IsNamed self.now act result.irp }
+    {
+        if self.is_apart(act) {
+            return labels.standing(rt, label_named(act));
+        }
+        let irp = packet_of(self.bindings.packets.as_slice(), act);
+        NamedPacket { irp, source: None }
+    }
+
+    /// The step of this place, which has this act, named this packet. It is kept where it did so by a label that another
+    /// worker binds.
+    pub fn took(&mut self, place: u32, act: StepAct, named: NamedPacket)
+        ensures { self.new ≡ known_reading place self.old act named.irp }
+    {
+        let reading = self.reading(act, named.irp);
+        keep_at(&mut self.read, place, reading);
+        tell_source(&mut self.sources, place, named.source);
+    }
+
+    /// The label that the act of the step of this place binds stands for the packet that it was answered by, if it was,
+    /// from now on: for the worker, and among the labels of the run. What it bound is kept.
+    pub fn learn(&mut self, rt: &impl Wait, labels: &Labels, place: u32, act: StepAct, reply: Reply)
+        ensures { self.new ≡ known_behind place self.old act reply }
     {
         self.bindings.learn(act, reply);
-        labels.learn(rt, act, reply);
+        let binding = binding_of(label_of(act), packet_in(reply));
+        keep_at(&mut self.written, place, binding);
+        let worker = self.number;
+        labels.learn(rt, binding, Source { worker, place });
+    }
+
+    /// What a label stands for, by what is known.
+    pub fn stands_for(&self, label: usize) -> IrpRef
+        ensures { result ≡ label_at self.now.packets label }
+    {
+        label_at(self.bindings.packets.as_slice(), label)
+    }
+
+    /// The label that the step of this place bound, with its packet. None where it bound none.
+    pub fn written_at(&self, place: u32) -> Option<Binding>
+        ensures { result ≡ option_flatten (slice_get self.now.written place) }
+    {
+        match self.written.get(place as usize) {
+            Some(binding) => *binding,
+            None => None,
+        }
+    }
+
+    /// What the steps read of labels that other workers bind, by their places.
+    pub fn readings(&self) -> &[Option<Binding>]
+        ensures { result.now ≡ self.now.read }
+    {
+        self.read.as_slice()
+    }
+
+    /// The step that is told to have bound what the step of this place read. None where none is.
+    pub fn source_at(&self, place: usize) -> Option<Source> {
+        match self.sources.get(place) {
+            Some(source) => *source,
+            None => None,
+        }
+    }
+}
+
+impl SharedBindings {
+    /// What a label stands for.
+    fn at(&self, label: Option<usize>) -> NamedPacket {
+        let irp = UNBOUND;
+        let unbound = NamedPacket { irp, source: None };
+        match label {
+            Some(label) => *self.packets.get(label).unwrap_or(&unbound),
+            None => unbound,
+        }
+    }
+
+    /// A label stands for a packet from now on, bound by this step.
+    fn learn(&mut self, binding: Binding, source: Source) {
+        if binding.label < self.packets.len() {
+            let irp = binding.irp;
+            let source = Some(source);
+            self.packets[binding.label] = NamedPacket { irp, source };
+        }
     }
 }
 
@@ -186,19 +386,25 @@ impl Labels {
     ///
     /// `AllocError` where a growth was refused.
     pub fn new(alloc: Global, known: &Known) -> Result<Labels, AllocError> {
-        let packets = known.bindings.packets.to_vec(alloc)?;
+        let mut packets = Vec::new(alloc);
+        for irp in known.bindings.packets.as_slice() {
+            let irp = *irp;
+            packets.push(NamedPacket { irp, source: None })?;
+        }
         Ok(Labels {
-            bindings: Mutex::new(Bindings { packets }),
+            bindings: Mutex::new(SharedBindings { packets }),
         })
     }
 
-    /// The packet that an act names, by what the labels stand for at that moment.
-    fn packet_of(&self, rt: &impl Wait, act: StepAct) -> IrpRef {
-        packet_of(self.bindings.lock(rt).packets.as_slice(), act)
+    /// What a label stands for at that moment.
+    fn standing(&self, rt: &impl Wait, label: Option<usize>) -> NamedPacket {
+        self.bindings.lock(rt).at(label)
     }
 
-    /// Binds the label that an act binds, as `Bindings::learn` says.
-    fn learn(&self, rt: &impl Wait, act: StepAct, reply: Reply) {
-        self.bindings.lock(rt).learn(act, reply);
+    /// Binds the label, where the step bound one.
+    fn learn(&self, rt: &impl Wait, binding: Option<Binding>, source: Source) {
+        if let Some(binding) = binding {
+            self.bindings.lock(rt).learn(binding, source);
+        }
     }
 }

@@ -3,12 +3,15 @@
 #![tactic(auto)]
 
 mod between;
+mod binding;
+mod founded;
 mod gate;
 mod heard;
 mod labels;
 mod meeting;
 mod run;
 mod run_context;
+mod run_fault;
 mod script_seat;
 mod seat_steps;
 mod slot_parties;
@@ -22,5 +25,6 @@ mod worker_steps;
 pub use between::hand_between;
 pub use gate::{AlwaysOpen, Due, Gate};
 pub use run::{Worked, run_workers, script_seats};
+pub use run_fault::RunFault;
 pub use script_seat::ScriptSeat;
 pub use stop::{Stop, StopReason};

@@ -8,6 +8,7 @@ ghost use Rattle.irp_slots.specs.Pairing.{IsCancellerOf, IsOwnerOf};
 ghost use Rattle.irp_script.specs.Accounts.{Accounts};
 ghost use Rattle.irp_script.specs.AtSlots.{OwnTheirSlots};
 ghost use Rattle.irp_script.specs.Numbers.{AreSame, EachAsOften};
+ghost use Rattle.irp_script.specs.Labels.{AreFounded};
 ghost use Rattle.irp_script.specs.Seats.{
   HasAllSlots,
   HasTakenNothing,
@@ -24,14 +25,16 @@ ghost use Rattle.irp_script.specs.Seats.{
   seats_of,
 };
 ghost use Rattle.irp_script.specs.Words.{AreInOrder};
-ghost use Rattle.irp_script.specs.Workers.{IsIdle, IsReady, RunsOwn, count_lines, count_seats};
+ghost use Rattle.irp_script.specs.Workers.{IsIdle, IsReady, RunsOwn, count_lines, count_seats, knowns_of};
 ghost use Rattle.irp_script.specs.Working.{RunsScript, first_stop};
 
+use crate::founded::unfounded;
 use crate::gate::{AlwaysOpen, Gate};
 use crate::heard::none_heard;
 use crate::labels::{Known, Labels};
 use crate::meeting::Meeting;
 use crate::run_context::RunContext;
+use crate::run_fault::RunFault;
 use crate::script_seat::ScriptSeat;
 use crate::slot_parties::SlotParties;
 use crate::stop::Stop;
@@ -206,11 +209,17 @@ fn run_all<'a, A: Ask + Send, L: Session + Send + Sync, G: Gate + Sync, R: Threa
     )
 }
 
-/// What the workers did, together.
+/// What the workers did, together, where this was known of the labels before their steps.
+///
+/// # Errors
+///
+/// `LabelsDiffer` where one read a label that another binds for another packet than it was bound to; `Memory` where a
+/// growth was refused.
 fn gather<'a, L: Session>(
     alloc: Global,
+    known: &Known,
     mut workers: Vec<Worker<'a, L>>,
-) -> Result<Worked<'a, L>, AllocError>
+) -> Result<Worked<'a, L>, RunFault>
     ensures words { IfOk result (λ worked. AreInOrder worked.words.items) }
     ensures lines { IfOk result (λ worked. (test : WordLine → Bool)
         → count_by test worked.words.items ≡ count_lines test workers.entry.items) }
@@ -218,7 +227,12 @@ fn gather<'a, L: Session>(
         (λ worker. worker.stop) workers.entry.items) }
     ensures seats { IfOk result (λ worked. (test : _ → Bool)
         → count_by test worked.seats.items ≡ count_seats test workers.entry.items) }
+    ensures labels { IfOk result (λ _.
+        AreFounded known.now.packets (knowns_of workers.entry.items)) }
 {
+    if let Some(label) = unfounded(known, workers.as_slice()) {
+        return Err(RunFault::LabelsDiffer { label });
+    }
     let mut seats = Vec::new(alloc);
     let mut words = Vec::new(alloc);
     let mut stop: Option<Stop> = None;
@@ -242,7 +256,8 @@ fn gather<'a, L: Session>(
 ///
 /// Labels are shared by all seats: one that isn't bound yet stands for a packet that is never live. For a worker's step
 /// a label stands for what the setup's steps and the worker's own made it stand for; but one that another worker binds
-/// stands for what it stands for at that moment, of which no clause speaks. A step whose seat isn't there, one whose
+/// stands for what it stands for at that moment: for what it stood for behind the setup, or for what a step of a worker
+/// bound it to. That no other packet was taken is looked up once all workers are done. A step whose seat isn't there, one whose
 /// call isn't recorded, a hand to a seat that its worker doesn't have, and a publish or a
 /// withdraw in a slot of another seat stops its worker, which says so; in the setup, nothing more is run. The gate is
 /// called before and after each of the script's `steps` that is made, with its seat and its place, outside the session's
@@ -277,7 +292,8 @@ fn gather<'a, L: Session>(
 ///
 /// # Errors
 ///
-/// `AllocError` where a growth was refused, which may come after steps were run. The seats are gone then.
+/// `Memory` where a growth was refused, and `LabelsDiffer` where what was read of a label can't be found among what was
+/// bound, which would be a fault of this library. Either may come after steps were run. The seats are gone then.
 pub fn run_workers<
     'a,
     A: Ask + Send,
@@ -294,7 +310,7 @@ pub fn run_workers<
     script: &ScriptParts,
     gate: &G,
     workers: u32,
-) -> Result<Worked<'a, L>, AllocError>
+) -> Result<Worked<'a, L>, RunFault>
     requires workers { 0 < workers }
     requires locks { All (IsAtLocks locks.now) seats.items }
     requires slots { All (IsAtSlots slots.now) seats.items }
@@ -330,5 +346,5 @@ pub fn run_workers<
     let groups = deal(alloc, locks, workers, ready.seats, &ready.known, steps)?;
     let meeting = Meeting::new(workers);
     let done = run_all(rt, &context, &meeting, gate, steps, groups)?;
-    gather(alloc, done)
+    gather(alloc, &ready.known, done)
 }

@@ -53,8 +53,8 @@ impl<'a, L: Session> ScriptSeat<'a, L> {
         self.seat.saw(length);
     }
 
-    /// Makes the call of a step once, of the packet that it names, with what the remove seat knows of the locks, binds
-    /// the label that the step binds, and answers what the manager replied.
+    /// Makes the call of a step once, which has this place, of the packet that it names, with what the remove seat knows
+    /// of the locks, binds the label that the step binds, and answers what the manager replied.
     ///
     /// # Errors
     ///
@@ -64,25 +64,28 @@ impl<'a, L: Session> ScriptSeat<'a, L> {
         rt: &impl Wait,
         context: &RunContext<A, L>,
         known: &mut Known,
+        index: u32,
         step: Step,
     ) -> Result<Reply, StopReason>
         requires { kind_of step.act ≡ StepKind.Calls }
         ensures remove { self.new.remove ≡ self.old.remove }
         ensures parties { self.new.parties ≡ self.old.parties }
         ensures called { MatchResult result
-            (λ reply. CallsFor step.act self.old.remove self.old.seat self.new.seat known.old known.new reply)
+            (λ reply. CallsFor index step.act self.old.remove
+            self.old.seat self.new.seat known.old known.new reply)
             (λ why. IsAsBefore self.old.seat self.new.seat × IsUnrecorded self.old.seat.seen why) }
         ensures unlearnt { OnErr result (known.new ≡ known.old) }
     {
-        let irp = known.packet_of(rt, &context.labels, step.act);
-        let Some(call) = call_of(step.act, irp) else {
+        let named = known.packet_of(rt, &context.labels, step.act);
+        let Some(call) = call_of(step.act, named.irp) else {
             unreachable!();
         };
         let seat = &mut self.seat;
         match context.shared.call(rt, seat, call, &self.remove) {
             Ok(receipt) => {
                 let reply = receipt.reply();
-                known.learn(rt, &context.labels, step.act, reply);
+                known.took(index, step.act, named);
+                known.learn(rt, &context.labels, index, step.act, reply);
                 Ok(reply)
             }
             Err(error) => Err(StopReason::from(error)),
@@ -189,20 +192,25 @@ impl<'a, L: Session> ScriptSeat<'a, L> {
         &mut self,
         rt: &impl Wait,
         context: &RunContext<A, L>,
-        known: &Known,
+        known: &mut Known,
+        index: u32,
         step: Step,
         on: SlotAct,
     ) -> Result<WordReply, StopReason>
         ensures seat { self.new.seat ≡ self.old.seat }
         ensures remove { self.new.remove ≡ self.old.remove }
         ensures acts { MatchResult result
-            (λ reply. SlotActs known.now step.act on self.old.parties self.new.parties reply)
+            (λ reply. SlotActs index known.old known.new step.act on
+            self.old.parties self.new.parties reply)
             (λ why. (self.new.parties ≡ self.old.parties) × IsUnacted on self.old.parties why) }
+        ensures unlearnt { OnErr result (known.new ≡ known.old) }
     {
         match on {
             SlotAct::Publish { slot } => {
-                let irp = known.packet_of(rt, &context.labels, step.act);
-                self.parties.publish(slot, irp)
+                let named = known.packet_of(rt, &context.labels, step.act);
+                let reply = self.parties.publish(slot, named.irp)?;
+                known.took(index, step.act, named);
+                Ok(reply)
             }
             SlotAct::Withdraw { slot } => self.parties.withdraw(slot),
             SlotAct::Request { slot } => Ok(self.parties.request(slot)?),
@@ -243,21 +251,22 @@ impl<'a, L: Session> ScriptSeat<'a, L> {
         &mut self,
         rt: &impl Wait,
         context: &RunContext<A, L>,
-        known: &Known,
+        known: &mut Known,
         index: u32,
         step: Step,
         on: SlotAct,
         words: &mut Vec<WordLine>,
     ) -> Result<WordReply, StopReason>
-        ensures { MatchResult result
+        ensures acts { MatchResult result
             (λ reply. ActsOnSlot index step on
             (seat_at_work self.old) (seat_at_work self.new)
-            words.old.items words.new.items known.now reply)
+            words.old.items words.new.items known.old known.new reply)
             (λ why. Stays (seat_at_work self.old) (seat_at_work self.new)
             words.old.items words.new.items × IsUnacted on self.old.parties why) }
+        ensures unlearnt { OnErr result (known.new ≡ known.old) }
     {
         words.reserve(1)?;
-        let reply = self.act_at_slot(rt, context, known, step, on)?;
+        let reply = self.act_at_slot(rt, context, known, index, step, on)?;
         tell(words, index, step, Act::OnSlot(on), reply);
         Ok(reply)
     }
@@ -300,7 +309,7 @@ impl<'a, L: Session> ScriptSeat<'a, L> {
         &mut self,
         rt: &impl Wait,
         context: &RunContext<A, L>,
-        known: &Known,
+        known: &mut Known,
         index: u32,
         step: Step,
         slot: u32,
@@ -308,25 +317,27 @@ impl<'a, L: Session> ScriptSeat<'a, L> {
         information: u64,
         words: &mut Vec<WordLine>,
     ) -> Result<Answered, StopReason>
-        ensures { MatchResult result
+        ensures finishes { MatchResult result
             (λ answer. Finishing index step slot status information
             (seat_at_work self.old) (seat_at_work self.new)
-            words.old.items words.new.items known.now answer)
+            words.old.items words.new.items known.old known.new answer)
             (λ why. Stays (seat_at_work self.old) (seat_at_work self.new)
             words.old.items words.new.items × IsUnrecorded self.old.seat.seen why) }
+        ensures unlearnt { OnErr result (known.new ≡ known.old) }
     {
         let Some((at, token)) = self.parties.take(slot) else {
             self.finish_none(index, step, slot, words)?;
             return Ok(Answered::Word(WordReply::NoToken));
         };
-        let irp = known.packet_of(rt, &context.labels, step.act);
+        let named = known.packet_of(rt, &context.labels, step.act);
         let seat = &mut self.seat;
         match context
             .shared
-            .finish_taken(rt, seat, irp, token, status, information)
+            .finish_taken(rt, seat, named.irp, token, status, information)
         {
             Ok((receipt, token)) => {
                 self.parties.put_back(at, slot, token);
+                known.took(index, step.act, named);
                 Ok(Answered::Reply(receipt.reply()))
             }
             Err((error, token)) => {
@@ -366,7 +377,7 @@ impl<'a, L: Session> ScriptSeat<'a, L> {
         ensures unlearnt { OnErr result (known.new ≡ known.old) }
     {
         match kind_of(step.act) {
-            StepKind::Calls => Ok(Answered::Reply(self.call(rt, context, known, step)?)),
+            StepKind::Calls => Ok(Answered::Reply(self.call(rt, context, known, index, step)?)),
             StepKind::OnLock(on) => Ok(Answered::Word(self.step_on_lock(index, step, on, words)?)),
             StepKind::OnSlot(on) => {
                 let reply = self.step_on_slot(rt, context, known, index, step, on, words)?;

@@ -43,7 +43,7 @@ pub fn packet_in(reply: Reply) -> Option<IrpRef>
 }
 
 /// What a label stands for, where labels stand for these packets, by number.
-fn label_at(packets: &[IrpRef], label: usize) -> IrpRef
+pub fn label_at(packets: &[IrpRef], label: usize) -> IrpRef
     ensures { result ≡ label_at packets.now label }
 {
     match packets.get(label) {

@@ -1,100 +1,145 @@
-//! The program: plays tests of the libraries by their public calls, of what neither a clause nor an example can say, and
-//! tells of each whether all was as it should be.
+//! The program: plays scenarios of library calls, while one request for memory may be refused, and tells where that
+//! fell and whether all was as it has to be; and tests of what neither a clause nor an example can say.
 //!
 //! Each test ends by itself, and what is printed is the same whatever the schedule.
 #![tactic(auto)]
 
-mod closures;
-mod outcome;
-mod remove;
-mod shared;
-mod sharing;
+mod example;
+mod notes;
+mod removes;
+mod room;
+mod rows;
+mod scenarios;
+mod scenes;
+mod session;
 mod slots;
 mod stores;
+mod tables;
+mod texts;
+mod tried;
+mod watch;
 mod workers;
+mod writes;
 
-use crate::outcome::Outcome;
+use crate::scenarios::{Told, Work, perform, scenarios};
+use crate::tried::{Fell, Halt, Tried};
 use std::alloc::Global;
+use std::env;
 use std::io::{self, Write};
 use std::process::ExitCode;
+use std::rt::Env;
 use std::sync::Wait;
 use std::thread::Threads;
 
-/// The tests.
-#[derive(Clone, Copy)]
-enum Test {
-    Closures,
-    Behind,
-    AcquireDuringCall,
-    DroppedSeat,
-    RemoveUnderLoad,
-    SlotRace,
-    TwoCalls,
-    MissingSeat,
-    StopInSetup,
-    GateTurns,
+/// The words that the program was given, behind its name.
+fn words_of<R: Env + AllocGlobal>(rt: &R) -> Result<Vec<String>, Halt> {
+    Ok(env::args(rt)?.skip(1).collect(rt.alloc())?)
 }
 
-/// The tests by their names, in the order in which they are played.
-static TESTS: [(&str, Test); 10] = [
-    (
-        "closures_are_called_once_in_the_order_of_the_list",
-        Test::Closures,
-    ),
-    ("a_seat_is_behind_what_it_has_seen", Test::Behind),
-    ("acquire_during_call", Test::AcquireDuringCall),
-    (
-        "a_seat_dropped_while_it_holds_keeps_the_lock_busy",
-        Test::DroppedSeat,
-    ),
-    ("remove_under_load", Test::RemoveUnderLoad),
-    ("slot_race", Test::SlotRace),
-    ("two_calls_at_once", Test::TwoCalls),
-    (
-        "a_seat_that_is_not_there_stops_its_worker_alone",
-        Test::MissingSeat,
-    ),
-    ("a_stop_in_the_setup_stops_all", Test::StopInSetup),
-    (
-        "the_gate_is_called_before_and_after_each_step",
-        Test::GateTurns,
-    ),
-];
-
-/// Plays a test.
-fn outcome_of<R: Threads + Wait + Sync>(rt: &R, alloc: Global, test: Test) -> Outcome {
-    match test {
-        Test::Closures => closures::closures_are_called_once_in_the_order_of_the_list(rt, alloc),
-        Test::Behind => shared::a_seat_is_behind_what_it_has_seen(rt, alloc),
-        Test::AcquireDuringCall => sharing::acquire_during_call(rt, alloc),
-        Test::DroppedSeat => remove::a_seat_dropped_while_it_holds_keeps_the_lock_busy(alloc),
-        Test::RemoveUnderLoad => remove::remove_under_load(rt, alloc),
-        Test::SlotRace => slots::slot_race(rt, alloc),
-        Test::TwoCalls => workers::two_calls_at_once(rt, alloc),
-        Test::MissingSeat => workers::a_seat_that_is_not_there_stops_its_worker_alone(rt, alloc),
-        Test::StopInSetup => workers::a_stop_in_the_setup_stops_all(rt, alloc),
-        Test::GateTurns => workers::the_gate_is_called_before_and_after_each_step(rt, alloc),
+/// The lines of a scenario, which is played once more where memory was missing for what it takes for itself.
+fn lines_of<R: Threads + Wait + Sync>(
+    rt: &R,
+    alloc: Global,
+    work: Work,
+    tried: &mut Tried,
+) -> Result<Vec<u8>, &'static str> {
+    for _ in 0..2 {
+        let mut out = Vec::new(alloc);
+        match perform(rt, alloc, work, tried, &mut out) {
+            Ok(()) => return Ok(out),
+            Err(Halt::Wrong(what)) => return Err(what),
+            Err(Halt::Memory) => {
+                if matches!(tried.fell, Fell::Nowhere) {
+                    tried.fell = Fell::SetUp;
+                }
+            }
+        }
     }
+    Err("memory was missing twice")
 }
 
-/// Plays the tests, and writes a line for each. Whether all was as it should be.
-fn play_all<R: Threads + Wait + Sync, W: Write>(
+/// Writes what came of a scenario or a test: of a scenario its lines, and where the refused request fell. Whether all was
+/// as it has to be.
+fn tell<W: Write>(
+    writer: &mut W,
+    name: &str,
+    told: Told,
+    made: Result<Vec<u8>, &'static str>,
+    fell: Fell,
+) -> io::Result<bool> {
+    let lines = match made {
+        Ok(lines) => lines,
+        Err(what) => {
+            writeln!(writer, "{name}: {what}")?;
+            return Ok(false);
+        }
+    };
+    if matches!(told, Told::Name) {
+        writeln!(writer, "{name}: as it should be")?;
+        return Ok(true);
+    }
+    writer.write_all(lines.as_slice())?;
+    match (told, fell) {
+        (Told::Refused, Fell::Nowhere) => writeln!(writer, "refused: none")?,
+        (Told::Refused, Fell::SetUp) => writeln!(writer, "refused: set-up")?,
+        (Told::Refused, Fell::Call(step, call)) => writeln!(
+            writer,
+            "refused: step {step}, {call}"
+        )?,
+        _ => (),
+    }
+    Ok(true)
+}
+
+/// Plays those of the scenarios and tests that have this name, or each where the name is `every`, and writes what came of
+/// them. Whether all was as it has to be.
+fn play_named<R: Threads + Wait + Sync, W: Write>(
     rt: &R,
     alloc: Global,
     writer: &mut W,
+    name: &str,
+    fell: Fell,
 ) -> io::Result<bool> {
     let mut is_right = true;
-    for (name, test) in TESTS.iter() {
-        let outcome = outcome_of(rt, alloc, *test);
-        outcome.tell(writer, name)?;
-        is_right = is_right && outcome.is_right();
+    for (known, told, work) in scenarios() {
+        if name == *known || name == "every" {
+            let mut tried = Tried { step: 0, fell };
+            let made = lines_of(rt, alloc, *work, &mut tried);
+            is_right = tell(writer, known, *told, made, tried.fell)? && is_right;
+        }
     }
     Ok(is_right)
 }
 
+/// Lists the scenarios of which each request for memory is refused.
+fn list<W: Write>(writer: &mut W) -> io::Result<bool> {
+    for (name, told, _) in scenarios() {
+        if matches!(told, Told::Refused) {
+            writeln!(writer, "{name}")?;
+        }
+    }
+    Ok(true)
+}
+
+/// Does what the program's words ask for. Without one, lists the scenarios. Where memory is missing for the words, they
+/// are taken once more.
+fn run<R: Threads + Wait + Env + AllocGlobal + Sync, W: Write>(
+    rt: &R,
+    writer: &mut W,
+) -> Result<bool, Halt> {
+    let (words, fell) = match words_of(rt) {
+        Ok(words) => (words, Fell::Nowhere),
+        Err(_) => (words_of(rt)?, Fell::SetUp),
+    };
+    match words.as_slice() {
+        [name] => Ok(play_named(rt, rt.alloc(), writer, name.as_str(), fell)?),
+        _ => Ok(list(writer)?),
+    }
+}
+
 fn main(rt: HostRuntime) -> ExitCode {
     let mut writer = io::writer(&rt);
-    match play_all(&rt, rt.alloc(), &mut writer) {
+    match run(&rt, &mut writer) {
         Ok(true) => ExitCode::SUCCESS,
         _ => ExitCode::from(1),
     }

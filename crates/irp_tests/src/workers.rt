@@ -1,69 +1,35 @@
-//! Scripts run by workers.
-mod meeting;
-mod working;
+//! The seats of a script: seats of a session beside remove seats and cancel slots. Workers run a script in them.
 
-ghost use Rattle.std.specs.Prelude.{◌<◌, ◌≡◌, All, IfOk, vec_len};
+ghost use Rattle.std.specs.Prelude.{◌<◌, ◌≡◌, All, vec_len};
 ghost use Rattle.irp_types.specs.declared.limit.Limit.TheVariants.{ThirtyTwo};
 ghost use Rattle.irp_shared.specs.Answered.{AnswersSo};
 ghost use Rattle.irp_remove.specs.Pairing.{IsSeatOf, lock_count};
 
-use super::outcome::{Outcome, holds, number};
+use crate::scenes::Scene;
+use crate::tried::{Halt, Tried, wanted};
+use crate::watch::Watch;
 use irp_remove::{Locks, RemoveSeat};
 use irp_routines::{AnswerTable, Ask};
-use irp_script::{Gate, ScriptSeat, Stop, Worked, run_workers, script_seats};
-use irp_script_reader::{Labels, Named, ScriptForm, ScriptParts, Step, StepAct};
-use irp_shared::{Seat, Session, Shared, WordLine, open};
-use irp_types::{Call, DriverId, LockNo, Row};
-pub use meeting::two_calls_at_once;
+use irp_script::{RunFault, ScriptSeat, Worked, run_workers, script_seats};
+use irp_script_reader::{Labels, ScriptForm, ScriptParts};
+use irp_shared::{Seat, Session, Shared, WordLine, WordReply, open};
+use irp_slots::Slots;
+use irp_types::Row;
 use std::alloc::{AllocError, Global};
 use std::marker::Brand;
 use std::sync::Wait;
 use std::sync::ledger::Blank;
 use std::thread::Threads;
-pub use working::{
-    a_seat_that_is_not_there_stops_its_worker_alone, a_stop_in_the_setup_stops_all,
-    the_gate_is_called_before_and_after_each_step,
-};
 
-const LOCK: LockNo = LockNo(0);
-
-const CREATE: StepAct = StepAct::Call(Call::CreateDevice {
-    driver: DriverId(0),
-    lock: LOCK,
-});
-
-const ALLOCATE: StepAct = StepAct::Allocate { size: 1, label: 0 };
-
-const LOOK: StepAct = StepAct::Call(Call::Look {
-    irp: Named::Label(0),
-});
-
-/// A step of this seat.
-const fn by(seat: u32, act: StepAct) -> Step {
-    Step {
-        seat,
-        act,
-        condition: None,
-    }
-}
-
-/// The parts of a script of these steps, sound or not, with one lock and one label. Who is asked is handed in beside
-/// them.
-fn script(
-    alloc: Global,
-    seats: u32,
-    setup: &[Step],
-    steps: &[Step],
-) -> Result<ScriptParts, AllocError>
-    ensures { IfOk result (λ script. (script.seats ≡ seats) × (script.locks ≡ 1)) }
-{
-    let setup = Row::from_vec(setup.to_vec(alloc)?);
-    let steps = Row::from_vec(steps.to_vec(alloc)?);
+/// The parts of the scene's script, sound or not, with one lock and one label. Who is asked is handed in beside them.
+fn script_of(alloc: Global, scene: &Scene) -> Result<ScriptParts, AllocError> {
+    let setup = Row::from_vec(scene.setup.to_vec(alloc)?);
+    let steps = Row::from_vec(scene.steps.to_vec(alloc)?);
     let mut labels = Vec::new(alloc);
     labels.push(String::from_str(alloc, "a")?)?;
     Ok(ScriptParts {
         form: ScriptForm::One,
-        seats,
+        seats: scene.seats,
         locks: 1,
         completions: Row::from_vec(Vec::new(alloc)),
         cancels: Row::from_vec(Vec::new(alloc)),
@@ -75,25 +41,6 @@ fn script(
     })
 }
 
-/// What workers made of a script.
-#[derive(Drop)]
-struct Made {
-    /// How many entries the seats kept.
-    entries: usize,
-    words: Vec<WordLine>,
-    stop: Option<Stop>,
-}
-
-impl Made {
-    /// Right where the seats kept so many entries, and the workers stopped so or didn't stop.
-    fn is_right(&self, entries: u64, stop: Option<Stop>) -> Outcome {
-        number("entries", self.entries as u64, entries).and(holds(
-            self.stop == stop,
-            "the workers stopped otherwise",
-        ))
-    }
-}
-
 /// How many entries these seats kept.
 fn count_of<L: Session>(seats: Vec<ScriptSeat<'_, L>>) -> usize {
     let mut count: usize = 0;
@@ -103,113 +50,99 @@ fn count_of<L: Session>(seats: Vec<ScriptSeat<'_, L>>) -> usize {
     count
 }
 
-/// What the workers made.
-fn made_of<L: Session>(worked: Worked<'_, L>) -> Made {
-    let Worked { seats, words, stop } = worked;
-    Made {
-        entries: count_of(seats),
-        words,
-        stop,
+/// Whether the lines are of these seats and steps, each an acquisition that was granted.
+fn are_lines(words: &[WordLine], expected: &[(u32, u32)]) -> bool {
+    for (line, (seat, step)) in words.iter().zip(expected) {
+        if line.seat != *seat || line.step != *step || line.reply != WordReply::Acquired {
+            return false;
+        }
     }
+    words.len() == expected.len()
 }
 
-/// Has so many workers run the script in these seats. None where memory is missing.
-fn in_seats<A: Ask + Send, L: Session + Send + Sync, G: Gate + Sync, R: Threads + Wait + Sync>(
+/// Ok where the workers did what the scene says.
+fn judged<L: Session>(scene: &Scene, gate: &Watch, worked: Worked<'_, L>) -> Result<(), Halt> {
+    let Worked { seats, words, stop } = worked;
+    let are_all = are_lines(words.as_slice(), scene.lines);
+    wanted(
+        gate.is_right(),
+        "a step waited in vain, or came out of turn",
+    )
+    .and(wanted(count_of(seats) == scene.entries, "other entries"))
+    .and(wanted(are_all, "other word lines"))
+    .and(wanted(stop == scene.stop, "the workers stopped otherwise"))
+}
+
+/// Has the scene's workers run its script in these seats, in a session with one driver that dispatches nothing.
+fn run<A: Ask + Send, L: Session + Send + Sync, R: Threads + Wait + Sync>(
     rt: &R,
     alloc: Global,
     shared: &Shared<A, L>,
     locks: &Locks,
-    seats: Vec<Seat<L>>,
+    scene: &Scene,
     removes: Vec<RemoveSeat>,
-    script: &ScriptParts,
-    gate: &G,
-    workers: u32,
-) -> Option<Made>
-    requires workers { 0 < workers }
+    seats: Vec<Seat<L>>,
+    tried: &mut Tried,
+) -> Result<(), Halt>
     requires removes { All (IsSeatOf locks.now) removes.items }
     requires count { lock_count locks.now ≡ L.fixed.locks }
-    requires each { (vec_len removes ≡ vec_len seats) × (vec_len seats ≡ script.now.seats) }
+    requires each { (vec_len removes ≡ vec_len seats) × (vec_len seats ≡ scene.now.seats) }
 {
-    let Ok((slots, owners, cancellers)) = irp_slots::open(alloc, 0, script.seats) else {
-        return None;
+    let Ok((slots, owners, cancellers)) = irp_slots::open(alloc, scene.slots, scene.seats) else {
+        return Err(tried.lost("irp_slots::open"));
     };
     let Ok(pairs) = script_seats(alloc, locks, &slots, seats, removes, cancellers, owners) else {
-        return None;
+        return Err(tried.lost("script_seats"));
     };
+    if scene.workers == 0 {
+        let are_all = pairs.len() == scene.seats as usize;
+        return wanted(are_all, "some seats are missing");
+    }
+    let script = script_of(alloc, scene)?;
+    let (gate, count) = (Watch::new(scene), scene.workers);
     match run_workers(
-        rt, alloc, shared, locks, &slots, pairs, script, gate, workers,
+        rt, alloc, shared, locks, &slots, pairs, &script, &gate, count,
     ) {
-        Ok(worked) => Some(made_of(worked)),
-        Err(_) => None,
+        Ok(worked) => judged(scene, &gate, worked),
+        Err(RunFault::Memory) => Err(tried.lost("run_workers")),
+        Err(RunFault::LabelsDiffer { .. }) => Err(Halt::Wrong("labels differ")),
     }
 }
 
-/// The same in these seats of a session, with new remove locks.
-fn at_locks<A: Ask + Send, L: Session + Send + Sync, G: Gate + Sync, R: Threads + Wait + Sync>(
-    rt: &R,
-    alloc: Global,
-    shared: &Shared<A, L>,
-    seats: Vec<Seat<L>>,
-    script: &ScriptParts,
-    gate: &G,
-    workers: u32,
-) -> Option<Made>
-    requires workers { 0 < workers }
-    requires locks { L.fixed.locks ≡ script.now.locks }
-    requires seats { vec_len seats ≡ script.now.seats }
-{
-    let Ok((locks, removes)) = irp_remove::open(alloc, script.locks, script.seats) else {
-        return None;
-    };
-    in_seats(
-        rt, alloc, shared, &locks, seats, removes, script, gate, workers,
-    )
-}
-
-/// The same in a new session of the script's seats.
-fn session<
-    A: Ask + Send + Drop,
-    L: Session + Send + Sync,
-    G: Gate + Sync,
-    R: Threads + Wait + Sync,
->(
+/// The same in a new session, with new remove locks.
+fn in_session<A: Ask + Send + Drop, L: Session + Send + Sync, R: Threads + Wait + Sync>(
     rt: &R,
     alloc: Global,
     blank: Blank,
     ask: A,
-    script: &ScriptParts,
-    gate: &G,
-    workers: u32,
-) -> Option<Made>
-    requires workers { 0 < workers }
+    scene: &Scene,
+    tried: &mut Tried,
+) -> Result<(), Halt>
     requires blank { (blank.name ≡ L.name) × (blank.parts ≡ L.parts) }
-    requires seats { (L.parts ≡ script.now.seats) × (L.seats ≡ script.now.seats) }
-    requires fixed { L.fixed
-        ≡ record { locks = script.now.locks; tables = A.tables ask; limit = ThirtyTwo } }
+    requires seats { (L.parts ≡ scene.now.seats) × (L.seats ≡ scene.now.seats) }
+    requires fixed { L.fixed ≡ record { locks = 1; tables = A.tables ask; limit = ThirtyTwo } }
     requires may { AnswersSo (A.may_plan ask) (A.may_answer ask) (A.may_cancel ask) L.may }
 {
-    let Ok((shared, seats)) = open::<A, L>(alloc, blank, ask, script.locks, script.seats) else {
-        return None;
+    let Ok((shared, seats)) = open::<A, L>(alloc, blank, ask, 1, scene.seats) else {
+        return Err(tried.lost("irp_shared::open"));
     };
-    at_locks(rt, alloc, &shared, seats, script, gate, workers)
+    match irp_remove::open(alloc, 1, scene.seats) {
+        Ok((locks, removes)) => run(rt, alloc, &shared, &locks, scene, removes, seats, tried),
+        Err(_) => Err(tried.lost("irp_remove::open")),
+    }
 }
 
-/// What so many workers make of a script of these steps, with one driver that dispatches nothing. None where memory is
-/// missing.
-fn worked<G: Gate + Sync, R: Threads + Wait + Sync>(
+/// Plays a scene, with one driver that dispatches nothing.
+pub fn play_scene<R: Threads + Wait + Sync>(
     rt: &R,
     alloc: Global,
-    seats: u32,
-    setup: &[Step],
-    steps: &[Step],
-    gate: &G,
-    workers: u32,
-) -> Option<Made>
-    requires { 0 < workers }
-{
+    scene: &Scene,
+    tried: &mut Tried,
+) -> Result<(), Halt> {
     let mut ask = AnswerTable::new(alloc);
-    ask.add_driver(Vec::new(alloc)).ok()?;
-    let script = script(alloc, seats, setup, steps).ok()?;
-    let blank = Blank::new(u64::from(script.seats));
-    session::<AnswerTable, Brand, G, R>(rt, alloc, blank, ask, &script, gate, workers)
+    if ask.add_driver(Vec::new(alloc)).is_err() {
+        return Err(tried.lost("AnswerTable::add_driver"));
+    }
+    let blank = Blank::new(u64::from(scene.seats));
+    in_session::<AnswerTable, Brand, R>(rt, alloc, blank, ask, scene, tried)
 }

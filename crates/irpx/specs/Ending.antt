@@ -27,13 +27,14 @@ of_verdict (verdict.Illegal at) = Illegal
 
 -- ---- what an ending is seen by
 
--- the exit status of a fault: of a text that is refused, of receipts that differ, of memory that ran out or a
+-- the exit status of a fault: of a text that is refused, of receipts or labels that differ, of memory that ran out or a
 -- transcript that doesn't fit, of other words, and of a stream that failed
 abbrev pub fault_status : NotDone → ℕ
 fault_status (fault.RefusedScript refusal) = 1
 fault_status (fault.HandsBetween step) = 1
 fault_status (fault.RefusedLine line) = 1
 fault_status fault.ReceiptsDiffer = 2
+fault_status (fault.LabelsDiffer label) = 2
 fault_status (fault.NoMemory phase) = 3
 fault_status (fault.Stopped stop) = 3
 fault_status (fault.Unfit unfit) = 3
@@ -54,6 +55,7 @@ complaint_of (fault.RefusedScript refusal) = None
 complaint_of (fault.HandsBetween step) = None
 complaint_of (fault.RefusedLine line) = Some (codes "irpx: transcript refused: line " ++ decimal line)
 complaint_of fault.ReceiptsDiffer = Some (codes "irpx: receipts differ")
+complaint_of (fault.LabelsDiffer label) = Some (codes "irpx: labels differ: label " ++ decimal label)
 complaint_of (fault.NoMemory phase) = Some (codes "irpx: out of memory")
 complaint_of (fault.Stopped stop) = Some (codes "irpx: out of memory")
 complaint_of (fault.Unfit unfit) = Some (codes "irpx: can't be read again: " ++ name_of unfit)

@@ -57,6 +57,7 @@ use Rattle.irpx.specs.Writing.{Prints, StopsShort}
 use Rattle.irpx.specs.declared.not_done.NotDone.{NotDone}
 use Rattle.irpx.specs.declared.not_done.NotDone.TheVariants.{
   HandsBetween,
+  LabelsDiffer,
   NoMemory,
   ReceiptsDiffer,
   RefusedScript,
@@ -153,10 +154,12 @@ run_transcript form words transcript = record transcript {
   words = words;
 }
 
--- why there is no transcript of a script that was run: memory ran out, or the seats kept other entries
+-- why there is no transcript of a script that was run: memory ran out, the seats kept other entries, or a step read a
+-- label for another packet than it was bound to
 abbrev pub IsRunningFault : NotDone → Type 0
 IsRunningFault (NoMemory Running) = Unit {0}
 IsRunningFault ReceiptsDiffer = Unit {0}
+IsRunningFault (LabelsDiffer label) = Unit {0}
 IsRunningFault other = ⊥
 
 -- the calls of each seat's entries are those of its own among these, in order: each once and no other, but for the

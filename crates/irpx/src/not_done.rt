@@ -40,6 +40,8 @@ pub enum NotDone {
     RefusedLine { line: u64 },
     /// The seats kept other entries than the history has.
     ReceiptsDiffer,
+    /// A step read this label, of this number, for another packet than it was bound to.
+    LabelsDiffer { label: usize },
     /// A worker stopped, here and for this reason. The transcript of what was recorded is written.
     Stopped { stop: Stop },
     /// This is the first part of the transcript that doesn't fit: it would not be read again as the same.
@@ -55,7 +57,7 @@ impl NotDone {
             NotDone::RefusedScript { .. }
             | NotDone::HandsBetween { .. }
             | NotDone::RefusedLine { .. } => 1,
-            NotDone::ReceiptsDiffer => 2,
+            NotDone::ReceiptsDiffer | NotDone::LabelsDiffer { .. } => 2,
             NotDone::NoMemory(_) | NotDone::Stopped { .. } | NotDone::Unfit { .. } => 3,
             NotDone::Usage => 4,
             NotDone::Input | NotDone::Output => 5,
@@ -82,6 +84,7 @@ impl fmt::Display for NotDone {
             }
             NotDone::RefusedLine { line } => write!(f, "irpx: transcript refused: line {line}"),
             NotDone::ReceiptsDiffer => f.write_str("irpx: receipts differ"),
+            NotDone::LabelsDiffer { label } => write!(f, "irpx: labels differ: label {label}"),
             NotDone::NoMemory(_) | NotDone::Stopped { .. } => f.write_str("irpx: out of memory"),
             NotDone::Unfit { unfit } => write!(f, "irpx: can't be read again: {unfit}"),
             NotDone::Usage => f.write_str("irpx: usage: irpx demo, run [--workers N] or check"),

@@ -38,7 +38,9 @@ use crate::planned::Planned;
 use crate::told::{cancel_told, dispatch_told, routine_told};
 use crate::writing::write;
 use irp_routines::{Ask, Store};
-use irp_script::{AlwaysOpen, ScriptSeat, Stop, Worked, hand_between, run_workers, script_seats};
+use irp_script::{
+    AlwaysOpen, RunFault, ScriptSeat, Stop, Worked, hand_between, run_workers, script_seats,
+};
 use irp_script_reader::{Script, ScriptFault, ScriptForm, ScriptParts, read_script};
 use irp_shared::{
     Form, Seat, Session, Shared, Transcript, TranscriptParts, WordLine, open_with_limit,
@@ -213,12 +215,13 @@ fn session<A: Ask + Send + Drop, L: Session + Send + Sync, T: Threads + Wait + S
         return Err(NO_MEMORY);
     };
     let gate = AlwaysOpen;
-    let Ok(worked) = run_workers(
+    match run_workers(
         rt, alloc, &shared, &locks, &slots, pairs, script, &gate, workers,
-    ) else {
-        return Err(NO_MEMORY);
-    };
-    finish(alloc, shared, worked, script.form)
+    ) {
+        Ok(worked) => finish(alloc, shared, worked, script.form),
+        Err(RunFault::Memory) => Err(NO_MEMORY),
+        Err(RunFault::LabelsDiffer { label }) => Err(NotDone::LabelsDiffer { label }),
+    }
 }
 
 /// Writes the transcript that a run left. `Stopped` where it is written, but a worker stopped.
@@ -354,8 +357,8 @@ fn run_read<O: Out, T: Threads + Wait + Sync>(
 ///
 /// Where there is no script: `Input` where the input failed, `RefusedScript` where its text is none, `NoMemory` of
 /// `Reading`. `HandsBetween` where there is one that hands a reference between seats of different workers: the first
-/// such step. Where there is no transcript: `NoMemory` of `Running`, or `ReceiptsDiffer` where the seats kept other
-/// entries than the history has. After any of these nothing goes out. `Stopped` where a worker stopped, with where and
+/// such step. Where there is no transcript: `NoMemory` of `Running`, `ReceiptsDiffer` where the seats kept other entries
+/// than the history has, or `LabelsDiffer` where a step read a label for another packet than it was bound to. After any of these nothing goes out. `Stopped` where a worker stopped, with where and
 /// why, and then what was recorded is written. After a beginning of the transcript: `Output` where the output failed,
 /// which its count of failures tells; `NoMemory` of `Writing`.
 pub fn run<R: Read, O: Out, T: Threads + Wait + Sync>(

@@ -19,8 +19,8 @@ loop-worker-init g c = record {
 pub loop-worker-preserved : goal.loop-worker-preserved
 loop-worker-preserved g c =
     let front = c.pop.new.self.items in
-    let worker = c.in-Some.worker in
-    let split : c.loop-worker.workers.items ≡ c.pop.new.self.items ++ c.in-Some.worker ∷ [] = c.in-Some.ensures.items in
+    let worker = c.in-Some-pop.worker in
+    let split : c.loop-worker.workers.items ≡ c.pop.new.self.items ++ c.in-Some-pop.worker ∷ [] = c.in-Some-pop.ensures.items in
     record {
       lines = λ test.
           let so_far = c.loop-worker.invariant.lines test in

@@ -15,7 +15,7 @@ returns-clause-ran g c =
     let counted : length c.in_ok-done.done.items ≡ c.args.workers = search rules in
     let passed : c.run-ready.result.stop ≡ None = not_some c.run-ready.result.stop (sym c.is_some.ensures ∙ c.if-is_some.false) in
     let before = begun seat_at_work _ _ _ _ _ _ _ (ap (λ seats. seats.items) c.new-all.ensures.seats) c.new-all.ensures.words (c.new-all.ensures.known ∙ c.in_ok-known.ensures ∙ ap none_bound c.len.ensures) (search rules) in
-    if_ok_all c.gather.result (λ worked gathered lines stopped. record {
+    if_ok_all c.gather.result (λ worked gathered lines stopped founded. record {
       ready = work_of c.run-ready.result;
       halted = None;
       first = own_from _ _ _ _ _ _ _ _ _ _ _ _ c.run-ready.ensures.made c.new-all.ensures.number c.new-all.ensures.workers c.as_slice.ensures before passed;
@@ -25,8 +25,8 @@ returns-clause-ran g c =
           (λ k one other lt.
           let start = c.in_ok-groups.ensures.ready k other lt in
           own_from _ _ _ _ _ _ _ _ _ _ _ _ (c.in_ok-done.ensures.made k one other (search rules)) start.0 start.1 c.as_slice-steps.ensures (begun seat_at_work _ _ _ _ _ _ _ refl start.2 (start.5 ∙ ap (λ steps. known_to k c.args.workers steps c.run-ready.result.known) c.as_slice-steps.ensures) (start.6 ∙ ap none_heard c.as_slice-steps.ensures)) refl)
-          gathered lines stopped;
-    }) c.gather.ensures.seats c.gather.ensures.lines c.gather.ensures.stop
+          gathered lines stopped founded;
+    }) c.gather.ensures.seats c.gather.ensures.lines c.gather.ensures.stop c.gather.ensures.labels
 
 pub returns-then-is_some-clause-ran : goal.returns-then-is_some-clause-ran
 returns-then-is_some-clause-ran g c =

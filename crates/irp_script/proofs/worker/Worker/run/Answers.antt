@@ -1,5 +1,5 @@
 use Rattle.std.proofs.Common.{refl, ◌∙◌, rules}
-use Rattle.irp_script.proofs.Stopping.{when_ok}
+use Rattle.irp_script.proofs.Stopping.{stops_own, when_ok}
 use Rattle.irp_script.proofs.Working.{makes_more}
 use Rattle.irp_script.proofs.worker.Worker.run.Goals as goal
 
@@ -14,3 +14,8 @@ loop-index-preserved g c = record {
   locks = c.turn.ensures.same.3 ∙ c.loop-index.invariant.locks;
   made = makes_more _ _ _ c.args.steps.now c.loop-index.index _ _ _ _ _ _ (search rules) c.loop-index.invariant.made c.loop-index.invariant.number c.loop-index.invariant.workers (when_ok _ c.turn.result c.in_default.not-Err c.turn.ensures.turned);
 }
+
+pub returns-in-Err-clause-made : goal.returns-in-Err-clause-made
+returns-in-Err-clause-made g c =
+    stops_own _ _ _ _ c.loop-index.index _ _ _ _ _ _ c.in-Err.stop _ (search rules) c.loop-index.invariant.made c.loop-index.invariant.number c.loop-index.invariant.workers
+    c.in-Err.ensures.stayed.0 c.in-Err.ensures.stayed.1 refl

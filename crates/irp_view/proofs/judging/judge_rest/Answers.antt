@@ -1,0 +1,19 @@
+-- All lines were taken; or what stopped that.
+use Rattle.std.proofs.Common.{refl, sym, subst, ◌∙◌}
+use Rattle.irp_judge.specs.Judges.{seen}
+use Rattle.irp_feed.specs.Feeding.{Fails}
+use Rattle.irp_view.specs.Drafts.{choice_of}
+use Rattle.irp_view.proofs.Judged.{starts_judged}
+use Rattle.irp_view.proofs.judging.judge_rest.Goals as goal
+
+pub returns-in-Ok : goal.returns-in-Ok
+returns-in-Ok g c = λ old starts.
+    (let fed = c.in-Ok.ensures old (choice_of c.args.draft) starts
+    (starts_judged (seen c.new-judge.result) _ c.args.start.now.header c.new-judge.ensures.header c.new-judge.ensures.judged refl c.requires.fresh c.new-2.ensures refl) in
+    ((fed.0, fed.1, c.found_in.ensures.found (choice_of c.args.draft) fed.0 fed.2), c.found_in.ensures.choice ∙ fed.2.choice))
+
+pub returns-in-Err : goal.returns-in-Err
+returns-in-Err g c = λ old starts.
+    subst (Fails old (g.R.Read.remaining c.feed_rest.new.input)) (sym c.unread_behind.ensures)
+    (c.in-Err.ensures old (choice_of c.args.draft) starts
+    (starts_judged (seen c.new-judge.result) _ c.args.start.now.header c.new-judge.ensures.header c.new-judge.ensures.judged refl c.requires.fresh c.new-2.ensures refl))
