@@ -7,7 +7,7 @@ use crate::orders::{explore, Act};
 use crate::session::open;
 use crate::slots::{self, Outcome, Token};
 use crate::status::SUCCESS;
-use crate::texts::{check, check_ahead, read_transcript};
+use crate::texts::{check, read_transcript};
 use crate::types::*;
 use crate::works::By;
 use crate::writer::write_transcript;
@@ -168,11 +168,11 @@ fn histories_of_four_seats_are_legal() {
     assert_eq!(entries.len(), 4000);
     assert_eq!(judged(&entries), Verdict::Legal(4000));
     let text = write_transcript(&header, &entries, 0);
-    assert_eq!(check_ahead(&text, 3), Verdict::Legal(4000));
+    assert_eq!(verdict_on(&text), Verdict::Legal(4000));
     entries[100].reply = Reply::Refused(Refusal::BadMajor);
     assert_eq!(judged(&entries), Verdict::Illegal(100));
     let text = write_transcript(&header, &entries, 0);
-    assert_eq!(check_ahead(&text, 3), Verdict::Illegal(100));
+    assert_eq!(verdict_on(&text), Verdict::Illegal(100));
 }
 
 #[test]

@@ -3,5 +3,48 @@ use Rattle.std.proofs.Common.{ℕ, Option, Ok, Err, sym, subst}
 use Rattle.irp_feed.specs.Feeding.{IsStart, refused_line}
 use Rattle.irp_feed.specs.declared.header.Start.{Start}
 use Rattle.irp_view.specs.Listed.{SendsInput, StopsAt}
+use Rattle.irp_view.specs.declared.listing.Unsent.{Unsent}
 use Rattle.irp_view.proofs.Listed.{no_header, nothing_shown}
 use Rattle.irp_view.proofs.listing.show_transcript.Goals as goal
+
+pub returns-in-Ok-None : goal.returns-in-Ok-None
+returns-in-Ok-None g c =
+    let old = g.R.Read.remaining c.args.input.now in
+    let now = g.R.Read.remaining c.read_header.new.input in
+    nothing_shown c.args.only c.args.span old now (g.O.Out.gone c.args.output.now) (g.O.Out.failures c.args.output.now)
+    (subst (λ (start : Option Start). IsStart old now (Ok start) c.read_header.new.reader c.read_header.new.buffer) c.in-Ok-None.field-0-is c.in-Ok-None.ensures.start)
+
+pub returns-in-Err : goal.returns-in-Err
+returns-in-Err g c =
+    let old = g.R.Read.remaining c.args.input.now in
+    let now = g.R.Read.remaining c.read_header.new.input in
+    let gone = g.O.Out.gone c.args.output.now in
+    let failures : ℕ = g.O.Out.failures c.args.output.now in
+    subst (λ (line : Option ℕ). StopsAt c.args.only c.args.span old now line gone gone failures failures) (sym c.unread_behind-unread.ensures)
+    (no_header (refused_line c.in-Err.unfed) c.args.only c.args.span old now gone failures c.in-Err.ensures.start)
+
+pub returns-in-Ok : goal.returns-in-Ok
+returns-in-Ok g c =
+    let old = g.R.Read.remaining c.args.input.now in
+    let now = g.R.Read.remaining c.read_header.new.input in
+    c.in-Ok.ensures old
+    (subst (λ (start : Option Start). IsStart old now (Ok start) c.read_header.new.reader c.read_header.new.buffer) c.in-Ok-Some.field-0-is c.in-Ok-Some.ensures.start)
+
+pub returns-in-Err-Unwritten : goal.returns-in-Err-Unwritten
+returns-in-Err-Unwritten g c =
+    let old = g.R.Read.remaining c.args.input.now in
+    let now = g.R.Read.remaining c.read_header.new.input in
+    let last = g.R.Read.remaining c.show_rest.new.input in
+    subst (λ (unsent : Unsent). SendsInput (Err unsent) c.args.only c.args.span old last (g.O.Out.gone c.args.output.now) (g.O.Out.gone c.show_rest.new.output) (g.O.Out.failures c.args.output.now) (g.O.Out.failures c.show_rest.new.output)) c.in-Err-Unwritten.field-0-is
+    (c.in-Err-Unwritten.ensures old
+    (subst (λ (start : Option Start). IsStart old now (Ok start) c.read_header.new.reader c.read_header.new.buffer) c.in-Ok-Some.field-0-is c.in-Ok-Some.ensures.start))
+
+pub returns-in-Err-Unfed : goal.returns-in-Err-Unfed
+returns-in-Err-Unfed g c =
+    let old = g.R.Read.remaining c.args.input.now in
+    let now = g.R.Read.remaining c.read_header.new.input in
+    let last = g.R.Read.remaining c.show_rest.new.input in
+    let sends = subst (λ (unsent : Unsent). SendsInput (Err unsent) c.args.only c.args.span old last (g.O.Out.gone c.args.output.now) (g.O.Out.gone c.show_rest.new.output) (g.O.Out.failures c.args.output.now) (g.O.Out.failures c.show_rest.new.output)) c.in-Err-Unfed.field-0-is
+    (c.in-Err-Unfed.ensures old
+    (subst (λ (start : Option Start). IsStart old now (Ok start) c.read_header.new.reader c.read_header.new.buffer) c.in-Ok-Some.field-0-is c.in-Ok-Some.ensures.start)) in
+    subst (λ (line : Option ℕ). StopsAt c.args.only c.args.span old last line (g.O.Out.gone c.args.output.now) (g.O.Out.gone c.show_rest.new.output) (g.O.Out.failures c.args.output.now) (g.O.Out.failures c.show_rest.new.output)) (sym c.unread_behind.ensures) sends
