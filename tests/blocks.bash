@@ -1,9 +1,8 @@
 #!/bin/bash
-# Gives `irpx check` texts that don't fit into one block of its reading, which is four parts of 65,536 bytes, one for each
-# of four threads: bytes that spoil a line at and beside each edge of a part, texts that end there, lines without an end,
-# entries that aren't legal before a line that is refused. What is told is worked out from the text: the first line that is
-# spoiled. IRPX names the program. Each failure has a line of its own; the last line says how many were tried and how many
-# were wrong.
+# Gives `irpx check` texts that don't fit into one block of its reading, which is four parts of 65,536 bytes: bytes that
+# spoil a line at and beside each edge of a part, texts that end there, lines without an end, entries that aren't legal
+# before a line that is refused. What is told is worked out from the text: the first line that is spoiled. IRPX names the
+# program. Each failure has a line of its own; the last line says how many were tried and how many were wrong.
 set -u
 cd "$(dirname "$(readlink -f "$0")")" || exit 1
 irpx=${IRPX:?the path of the program}

@@ -1,7 +1,7 @@
-"""Gives `irpx check` and `irp_view why` texts, of up to a million lines, that a program would get wrong which reads lines
-before their turn: refused lines in each block and at a block's edge, cut lines, entries that aren't legal before a line
-that is refused, no newline at all. What is told is worked out from the text. `irp_view text` and `packet` show such texts
-block after block: the same is looked for, and that they take no more memory for a long text.
+"""Gives `irpx check` and `irp_view why` texts of up to a million lines, which they read block after block: refused lines in
+each block and at a block's edge, cut lines, entries that aren't legal before a line that is refused, no newline at all.
+What is told is worked out from the text. `irp_view text` and `packet` show such texts: the same is looked for, and that
+they take no more memory for a long text.
 
 Usage: long_texts.py IRPX IRP_VIEW. It prints a line for each answer that was wrong, and one that counts them all.
 """
@@ -15,7 +15,7 @@ from typing import NamedTuple
 # How many rounds most texts have, and how many some.
 ROUNDS = 50_000
 MANY_ROUNDS = 500_000
-# How many bytes the programs read at once, and what each of several threads reads of them.
+# How many bytes the programs read at once, and a fourth of them.
 BLOCK = 262_144
 PART = 65_536
 HEADER = b'{"cancels":[],"completions":[0,0,0,0,0],"dispatches":[],"drivers":[[]],"form":1,"locks":1,"seats":1}\n'

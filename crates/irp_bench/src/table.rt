@@ -121,16 +121,13 @@ static TABLE: [Row; 11] = [
     },
     Row {
         word: "check",
-        name: "read and judged in blocks, threads",
+        name: "read and judged in blocks, entries",
         load: Load::Blocks,
         beside_name: "read_transcript",
         beside: Load::Text(Task::Read),
-        numbers: &[1, 2, 4],
+        numbers: &[1_000_000],
     },
 ];
-
-/// How many entries the text has that is read and judged in blocks.
-const ENTRIES: u32 = 1_000_000;
 
 /// Runs a load once.
 fn run<R: Threads + Wait + Sync + Clock + AllocGlobal>(
@@ -150,7 +147,7 @@ fn run<R: Threads + Wait + Sync + Clock + AllocGlobal>(
             None => Err(NotTimed::Failed),
         },
         Load::Blocks => match sample {
-            Some(sample) => read_and_judge(rt, rt.alloc(), sample, number),
+            Some(sample) => read_and_judge(rt, rt.alloc(), sample),
             None => Err(NotTimed::Failed),
         },
     }
@@ -178,12 +175,10 @@ fn least<R: Threads + Wait + Sync + Clock + AllocGlobal>(
     row: Row,
     number: u32,
 ) -> Result<(Done, Done), NotTimed> {
-    let entries = match row.load {
-        Load::Text(_) => number,
-        Load::Blocks => ENTRIES,
-        _ => return take_turns(rt, row, number, None),
-    };
-    let sample = record_sample(rt, entries)?;
+    if !matches!(row.load, Load::Text(_) | Load::Blocks) {
+        return take_turns(rt, row, number, None);
+    }
+    let sample = record_sample(rt, number)?;
     take_turns(rt, row, number, Some(&sample))
 }
 

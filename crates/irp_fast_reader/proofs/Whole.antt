@@ -23,7 +23,7 @@ use Rattle.irp_fast_reader.proofs.Plain.{IsPlain, plain, utf8_plain}
 use Rattle.irp_fast_reader.proofs.ReadBack.{read_back}
 use Rattle.irp_fast_reader.proofs.Stands.{Stands}
 use Rattle.irp_fast_reader.proofs.WordLines.{no_entry, word_back, word_stands}
-use Rattle.irp_fast_reader.specs.Fits.{EntryUnder, Fits, FitsUnder, IsShort, WordUnder}
+use Rattle.irp_fast_reader.specs.Fits.{EntryUnder, Fits, FitsUnder, IsShort, LineFits, WordUnder}
 use Rattle.irp_fast_reader.specs.Laws.{EntryIsRead, IsReadAgain, NothingElseIsRead, TextTells, WrittenIsRead}
 
 -- ---- lines
@@ -80,36 +80,36 @@ word_taken header entries before line h =
 
 -- ---- all lines
 
-words_taken : (header : Header) (entries : List Entry) (before words : List WordLine) → All (WordUnder header) words
+words_taken : (header : Header) (entries : List Entry) (before words : List WordLine) → All (LineFits (WordUnder header) word_json) words
     → TakesAll (made header entries before) (map compact_text (map word_json words)) (made header entries (before ++ words))
 words_taken header entries before [] h = ap (made header entries) (sym (append-nil before))
 words_taken header entries before (line ∷ words) h =
-    let under = All-head (WordUnder header) line words h in (
+    let under = All-head (LineFits (WordUnder header) word_json) line words h in (
       made header entries (before ++ line ∷ []),
-      (word_json line, line_is (word_json line) (word_stands 125 line under.fits) under.short, word_taken header entries before line under),
+      (word_json line, line_is (word_json line) (word_stands 125 line under.0.fits) under.1, word_taken header entries before line under.0),
       subst (λ (all : List WordLine). TakesAll (made header entries (before ++ line ∷ [])) (map compact_text (map word_json words)) (made header entries all))
           (append_assoc before (line ∷ []) words)
-          (words_taken header entries (before ++ line ∷ []) words (All-tail (WordUnder header) line words h)),
+          (words_taken header entries (before ++ line ∷ []) words (All-tail (LineFits (WordUnder header) word_json) line words h)),
     )
 
 entries_taken : (header : Header) (before entries : List Entry) (words : List WordLine) → length before + length entries ≤ most_entries
-    → All (EntryUnder header) entries → All (WordUnder header) words
+    → All (EntryUnder header) entries → All (LineFits (WordUnder header) word_json) words
     → TakesAll (made header before []) (map compact_text (map entry_json entries ++ map word_json words)) (made header (before ++ entries) words)
 entries_taken header before [] words few h k =
     subst (λ (all : List Entry). TakesAll (made header before []) (map compact_text (map word_json words)) (made header all words))
     (sym (append-nil before)) (words_taken header before [] words k)
 entries_taken header before (entry ∷ entries) words few h k =
-    let under = All-head (EntryUnder header) entry entries h in
+    let under = All-head (LineFits (EntryUnder header) entry_json) entry entries h in
     let longer : length (before ++ entry ∷ []) + length entries ≤ most_entries = omega (arith, length-append before (entry ∷ [])) in (
       made header (before ++ entry ∷ []) [],
       (
         entry_json entry,
-        line_is (entry_json entry) (entry_stands 122 entry under.fits) under.short,
-        entry_taken header before entry (omega arith) under,
+        line_is (entry_json entry) (entry_stands 122 entry under.0.fits) under.1,
+        entry_taken header before entry (omega arith) under.0,
       ),
       subst (λ (all : List Entry). TakesAll (made header (before ++ entry ∷ []) []) (map compact_text (map entry_json entries ++ map word_json words)) (made header all words))
           (append_assoc before (entry ∷ []) entries)
-          (entries_taken header (before ++ entry ∷ []) entries words longer (All-tail (EntryUnder header) entry entries h) k),
+          (entries_taken header (before ++ entry ∷ []) entries words longer (All-tail (LineFits (EntryUnder header) entry_json) entry entries h) k),
     )
 
 under_taken : (header : Header) (entries : List Entry) (words : List WordLine) → IsHeader header → FitsUnder (made header entries words) header
@@ -125,8 +125,8 @@ under_stand : (header : Header) (entries : List Entry) (words : List WordLine) �
 under_stand header entries words accepted fits = (
   header_stands 123 header accepted,
   all_stand_append (map entry_json entries) (map word_json words)
-      (all_stand_map entry_json (EntryUnder header) (λ entry under. entry_stands 122 entry under.fits) entries fits.entries)
-      (all_stand_map word_json (WordUnder header) (λ line under. word_stands 125 line under.fits) words fits.words),
+      (all_stand_map entry_json (LineFits (EntryUnder header) entry_json) (λ entry under. entry_stands 122 entry under.0.fits) entries fits.entries)
+      (all_stand_map word_json (LineFits (WordUnder header) word_json) (λ line under. word_stands 125 line under.0.fits) words fits.words),
 )
 
 -- ---- one answer

@@ -1,5 +1,6 @@
--- Which transcripts are read again as they were written. Most conditions are the ranges of the numbers' types, which
--- every value in a program keeps; the others are a packet's slot below 2 to the 32nd, and what a reader takes.
+-- Which transcripts are read again as they were written. Numbers are within the ranges of their types, which every value
+-- in a program keeps, and a packet's slot is below 2 to the 32nd. Beside that there are five conditions: only a delete
+-- has a lock; a seat is one that the header counts; a line has the header's form; a line is short; entries are few.
 use Rattle.std.specs.Prelude.{ℕ, ◌≡◌, List, ◌<◌, ◌≤◌, ◌^◌, Bool, true, false, IfSome, length, Option, None, ⊤}
 use Rattle.std.specs.List.{All}
 use Rattle.serde_json.specs.Data.{Data}
@@ -30,7 +31,7 @@ use Rattle.irp_transcript_reader.specs.Forms.{has_entry, has_word}
 use Rattle.irp_transcript_reader.specs.Reading.{hands_within, most_bytes, most_entries}
 use Rattle.irp_transcript_writer.specs.Lines.{entry_json, header_json, word_json}
 
--- ---- parts of an entry
+-- ---- ranges of the parts of an entry
 
 abbrev pub DeviceFits : DeviceId → Type 0
 DeviceFits device = device.0 < 2 ^ 32
@@ -53,9 +54,8 @@ PartyFits party.Originator = ⊤
 PartyFits (party.Device device) = DeviceFits device
 
 abbrev pub OwnerFits : Owner → Type 0
-OwnerFits owner.Originator = ⊤
 OwnerFits (owner.Device device) = DeviceFits device
-OwnerFits owner.Ended = ⊤
+OwnerFits other = ⊤
 
 abbrev pub SettingFits : Setting → Type 0
 SettingFits setting = (setting.routine.no < 2 ^ 32) × (setting.context < 2 ^ 64)
@@ -66,10 +66,9 @@ ReplacementFits replacement = StatusFits replacement.status × (replacement.info
 abbrev pub PlanFits : Plan → Type 0
 PlanFits (plan.Finish status information) = StatusFits status × (information < 2 ^ 64)
 PlanFits (plan.Hold cancel) = IfSome cancel CancelFits
-PlanFits plan.HoldSlot = ⊤
-PlanFits plan.Skip = ⊤
 PlanFits (plan.Forward setting) = IfSome setting SettingFits
 PlanFits (plan.ForwardPend setting) = IfSome setting SettingFits
+PlanFits other = ⊤
 
 abbrev pub AnswerFits : Answer → Type 0
 AnswerFits answer = IfSome answer.replacement ReplacementFits
@@ -109,27 +108,25 @@ CallFits (call.SetCancelRoutine party irp cancel) = PartyFits party × IrpFits i
 CallFits (call.Cancel irp) = IrpFits irp
 CallFits (call.Look irp) = IrpFits irp
 
--- an entry of a delete tells its lock, and whether that was known to be drained; any other entry has no lock
-abbrev pub TellsLock : Call → Option LockNo → Bool → Type 0
-TellsLock (call.Delete device) lock drained = IfSome lock LockFits
-TellsLock other lock drained = (lock ≡ None) × (drained ≡ false)
-
 abbrev pub SeenFits : Seen → Type 0
 SeenFits seen =
     OwnerFits seen.owner × (seen.current < 2 ^ 32) × StatusFits seen.status × (seen.information < 2 ^ 64)
     × IfSome seen.cancel_routine CancelFits
 
 abbrev pub ReplyFits : Reply → Type 0
-ReplyFits reply.Done = ⊤
 ReplyFits (reply.Device device) = DeviceFits device
 ReplyFits (reply.Irp irp) = IrpFits irp
 ReplyFits (reply.Status status) = StatusFits status
 ReplyFits (reply.Previous cancel) = IfSome cancel CancelFits
-ReplyFits (reply.Cancelled cancelled) = ⊤
 ReplyFits (reply.Seen seen) = SeenFits seen
-ReplyFits (reply.Refused reason) = ⊤
+ReplyFits other = ⊤
 
 -- ---- lines
+
+-- an entry of a delete tells its lock, and whether that was known to be drained; any other entry has no lock
+abbrev pub TellsLock : Call → Option LockNo → Bool → Type 0
+TellsLock (call.Delete device) lock drained = IfSome lock LockFits
+TellsLock other lock drained = (lock ≡ None) × (drained ≡ false)
 
 -- an entry that its form tells whole
 pub record EntryFits (entry : Entry) : Type 0 where
@@ -173,12 +170,12 @@ IsShort form = length (compact_text form) ≤ most_bytes
 
 -- ---- transcripts
 
--- the entry fits, its seat is one that the header counts, its form is the header's, and its line is short
+-- what must hold of an entry under the header, beside that its line is short: it fits, its seat is one that the header
+-- counts, and its form is the header's
 pub record EntryUnder (header : Header) (entry : Entry) : Type 0 where
   pub fits : EntryFits entry
   pub seated : entry.seat < header.seats
   pub of_form : has_entry header.form entry ≡ true
-  pub short : IsShort (entry_json entry)
 
 -- the same of a word line, and of the seat that it hands to
 pub record WordUnder (header : Header) (line : WordLine) : Type 0 where
@@ -186,14 +183,17 @@ pub record WordUnder (header : Header) (line : WordLine) : Type 0 where
   pub seated : line.seat < header.seats
   pub hands : hands_within header.seats line.act ≡ true
   pub of_form : has_word header.form line ≡ true
-  pub short : IsShort (word_json line)
+
+-- this holds of the value, and its line is short
+abbrev pub LineFits : {T : Type 0} → (T → Type 0) → (T → Data) → T → Type 0
+LineFits Holds json value = Holds value × IsShort (json value)
 
 -- each line fits under the header, whose own line is short
 pub record FitsUnder (transcript : TranscriptValue) (header : Header) : Type 0 where
   pub short : IsShort (header_json header)
   pub few : length transcript.entries ≤ most_entries
-  pub entries : All (EntryUnder header) transcript.entries
-  pub words : All (WordUnder header) transcript.words
+  pub entries : All (LineFits (EntryUnder header) entry_json) transcript.entries
+  pub words : All (LineFits (WordUnder header) word_json) transcript.words
 
 -- a transcript that is read again as it was written
 abbrev pub Fits : TranscriptValue → Type 0

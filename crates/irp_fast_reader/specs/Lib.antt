@@ -1,3 +1,4 @@
 pub mod Fed
 pub mod Fits
+pub mod Fitting
 pub mod Laws

@@ -1,9 +1,10 @@
-//! Which entries fit: their lines tell them whole.
+//! Which entries and word lines fit: their lines tell them whole.
 
 ghost use Rattle.std.specs.Prelude.{◌≡◌, ◌<◌, ◌^◌, ◌↔◌, true};
 ghost use Rattle.std.specs.List.{All};
 ghost use Rattle.irp_fast_reader.specs.Fits as spec;
 
+use irp_transcript::WordLine;
 use irp_types::{Asked, Call, Entry, IrpRef, LockNo, Reply, Shown};
 
 /// Tells that an entry's numbers are within the ranges of their types.
@@ -98,4 +99,11 @@ pub fn fits(entry: &Entry) -> bool
         return false;
     }
     asked_fits(entry.asked.as_slice()) && reply_fits(entry.reply)
+}
+
+/// Tells that a word line fits: its numbers are within the ranges of their types.
+pub fn word_fits(line: WordLine)
+    ensures { spec.WordFits line }
+{
+    let _ = line;
 }

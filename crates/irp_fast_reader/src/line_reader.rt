@@ -5,12 +5,11 @@ ghost use Rattle.irp_transcript.specs.Transcripts.{TranscriptValue, no_lines};
 ghost use Rattle.irp_transcript_reader.specs.Reading.{so_far};
 ghost use Rattle.irp_fast_reader.specs.Fed.{Counts, Given, HasTaken, bare_of, has_room, with_one_more};
 
-use crate::ahead::Known;
 use crate::line::Line;
 use crate::read::ByGuess;
 use irp_forms::Unread;
 use irp_transcript::Header;
-use irp_transcript_reader::Reading;
+use irp_transcript_reader::{Reading, TakeLine};
 use irp_types::limits::MOST_ENTRIES;
 use irp_types::{Entry, Row};
 use std::alloc::Global;
@@ -79,23 +78,17 @@ impl LineReader {
         Ok(())
     }
 
-    /// Takes the next line, without its newline, and gives it. What was read of it before is a help, if it is so.
+    /// Takes the next line, without its newline, and gives it.
     ///
     /// # Errors
     ///
     /// `Unread::Form` where the line is refused; `Unread::NoMemory` where memory ran out.
-    pub fn take(
-        &mut self,
-        alloc: Global,
-        line: &[u8],
-        known: Option<Known<'_>>,
-    ) -> Result<Line, Unread>
+    pub fn take(&mut self, alloc: Global, line: &[u8]) -> Result<Line, Unread>
         ensures { (before : TranscriptValue) → HasTaken self.old before
             → Given result self.new before line.now }
     {
         let is_header = self.alone.header.is_none();
-        self.guesses
-            .take_known(alloc, &mut self.alone, line, known)?;
+        self.guesses.take_line(alloc, &mut self.alone, line)?;
         if is_header {
             return Ok(Line::Header(give_header(alloc, &mut self.alone)));
         }

@@ -3,9 +3,8 @@
 ghost use Rattle.std.specs.Prelude.{IfSome, IsTrue};
 ghost use Rattle.irp_transcript.specs.Transcripts.{no_lines};
 ghost use Rattle.irp_fast_reader.specs.Fits.{IsWritten};
-ghost use Rattle.irp_transcript_reader.specs.Reading.{IsEntryLine, ReadsFrom, TakesLine, cut, so_far};
+ghost use Rattle.irp_transcript_reader.specs.Reading.{IsEntryLine, ReadsFrom, cut};
 
-use crate::ahead::Known;
 use crate::fits::fits;
 use crate::guess::guess_entry;
 use crate::round_trip::entry_is_read;
@@ -62,7 +61,7 @@ impl ByGuess {
     }
 
     /// An entry that this line is written of. None also where no more is guessed.
-    pub fn guess(&mut self, alloc: Global, line: &[u8]) -> Option<Entry>
+    fn guess(&mut self, alloc: Global, line: &[u8]) -> Option<Entry>
         ensures { IfSome result (IsWritten line.now) }
     {
         if self.misses >= MOST_MISSES {
@@ -86,29 +85,6 @@ impl ByGuess {
         } else {
             None
         }
-    }
-
-    /// Takes the next line as `take_line` does, by what was read of it before, if that is so.
-    ///
-    /// # Errors
-    ///
-    /// As `take_line`.
-    pub fn take_known(
-        &mut self,
-        alloc: Global,
-        reading: &mut Reading,
-        line: &[u8],
-        known: Option<Known<'_>>,
-    ) -> Result<(), Unread>
-        ensures { TakesLine result (so_far reading.old) line.now (so_far reading.new) }
-    {
-        let Some(known) = known else {
-            return self.take_line(alloc, reading, line);
-        };
-        if known.line == line && is_read(known.line, &known.entry) {
-            return reading.take_known(alloc, known.entry, line);
-        }
-        self.take_line(alloc, reading, line)
     }
 }
 

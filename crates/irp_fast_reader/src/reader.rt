@@ -20,7 +20,6 @@ ghost use Rattle.irp_transcript.specs.Transcripts.{TranscriptValue, no_lines};
 ghost use Rattle.irp_transcript_reader.specs.Reading.{ReadsFrom, cut};
 ghost use Rattle.irp_fast_reader.specs.Fed.{Given, Gives, HasRead, HasTaken, IsNextLine, Keeps, ended, fault_at};
 
-use crate::ahead::{Ahead, Known};
 use crate::line::Line;
 use crate::line_reader::LineReader;
 use irp_forms::Unread;
@@ -77,24 +76,26 @@ impl Reader {
     }
 
     /// Takes the line that ends with this piece, without its newline, and gives it.
-    fn end_line(
-        &mut self,
-        alloc: Global,
-        piece: &[u8],
-        known: Option<Known<'_>>,
-    ) -> Result<Line, Unread>
+    fn end_line(&mut self, alloc: Global, piece: &[u8]) -> Result<Line, Unread>
         ensures given { (before : TranscriptValue) → HasTaken self.old.lines before
             → Given result self.new.lines before (self.old.kept.items ++ piece.now) }
         ensures kept { OnOk result (self.new.kept.items ≡ []) }
         ensures count { self.new.count ≡ self.old.count }
     {
         if self.kept.is_empty() {
-            return self.lines.take(alloc, piece, known);
+            return self.lines.take(alloc, piece);
         }
         self.keep(piece)?;
-        let line = self.lines.take(alloc, self.kept.as_slice(), None)?;
+        let line = self.lines.take(alloc, self.kept.as_slice())?;
         self.kept.clear();
         Ok(line)
+    }
+
+    /// The beginning of a line that didn't end yet, as far as it was read.
+    pub fn begun(&self) -> &[u8]
+        ensures { result.now ≡ self.now.kept.items }
+    {
+        self.kept.as_slice()
     }
 
     /// Reads on in a block: gives the next line, and how many bytes of the block it ends with, its newline among them.
@@ -115,35 +116,13 @@ impl Reader {
         ensures refused { (text : List ℕ) (before : TranscriptValue) → HasRead self.old text before
             → length text + length block.now + 1 < 2 ^ 64 → IfErr result (IsNextLine text) }
     {
-        self.next_ahead(alloc, block, &mut Ahead::none(alloc))
-    }
-
-    /// As `next`, where the block's lines, or some of them, were read before. What that gives is the same.
-    ///
-    /// # Errors
-    ///
-    /// As `next`.
-    pub fn next_ahead(
-        &mut self,
-        alloc: Global,
-        block: &[u8],
-        ahead: &mut Ahead<'_>,
-    ) -> Result<Option<(Line, usize)>, ReadFault>
-        ensures within { IfOk result (λ read.
-            IfSome read (λ given. (0 < given.1) × (given.1 ≤ length block.now))) }
-        ensures gives { (text : List ℕ) (before : TranscriptValue) → HasRead self.old text before
-            → length text + length block.now + 1 < 2 ^ 64
-            → Gives result self.new text before block.now }
-        ensures refused { (text : List ℕ) (before : TranscriptValue) → HasRead self.old text before
-            → length text + length block.now + 1 < 2 ^ 64 → IfErr result (IsNextLine text) }
-    {
         let Some(place) = memchr(b'\n', block) else {
             return match self.keep(block) {
                 Ok(()) => Ok(None),
                 Err(unread) => Err(self.fault(unread)),
             };
         };
-        match self.end_line(alloc, &block[..place], ahead.next()) {
+        match self.end_line(alloc, &block[..place]) {
             Ok(line) => {
                 self.count = self.count.saturating_add(1);
                 Ok(Some((line, place + 1)))

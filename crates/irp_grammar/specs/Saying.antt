@@ -11,9 +11,10 @@ use Rattle.irp_script_reader.specs.declared.{act.Named.Named, act.Step.Step, act
 use Rattle.irp_script_reader.specs.declared.act.StepAct.TheVariants as does
 use Rattle.irp_script_reader.specs.declared.script.{ScriptForm.ScriptForm, ScriptParts.ScriptParts}
 use Rattle.irp_script_reader.specs.declared.script.ScriptForm.TheVariants as forms
-use Rattle.irp_grammar.specs.declared.{act.Act.Act, step_line.StepLine.StepLine, step_line.Values.Values}
+use Rattle.irp_names.specs.declared.step_names.Act.{Act}
+use Rattle.irp_names.specs.declared.step_names.Act.TheVariants as word
+use Rattle.irp_grammar.specs.declared.{step_line.StepLine.StepLine, step_line.Values.Values}
 use Rattle.irp_grammar.specs.declared.{cursor.WordsFault.WordsFault, law.Told.Told, law.Untold.Untold, said.Said.Said}
-use Rattle.irp_grammar.specs.declared.act.Act.TheVariants as word
 use Rattle.irp_grammar.specs.declared.law.Untold.TheVariants as untold
 
 -- a step hangs on anything

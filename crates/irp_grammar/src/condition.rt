@@ -1,7 +1,6 @@
 //! What a step hangs on, as its line says it and as JSON has it. Source: this project's own format (docs/WORDS.md,
 //! docs/FORMATS.md).
 
-use crate::act::Act;
 use crate::cursor::Cursor;
 use crate::members::take_status;
 use crate::names::Kind;
@@ -9,6 +8,7 @@ use crate::said::Said;
 use crate::wanted::Wanted;
 use crate::written::Written;
 use irp_forms::{HasName, named};
+use irp_names::Act;
 use irp_script_reader::{AnswerWord, Condition, ExpectedAnswer};
 use irp_types::{CancelId, Refusal};
 

@@ -2,10 +2,11 @@
 
 use crate::cursor::Cursor;
 use crate::names::{Kind, number_below};
-use crate::numbers::{begins_with_digit, major_named, number_in, status_named};
+use crate::numbers::{begins_with_digit, number_in};
 use crate::said::Said;
 use crate::wanted::Wanted;
 use irp_forms::{Flags, flags_named, named};
+use irp_names::{major_named, status_named};
 use irp_script_reader::{Behaviour, CompletionRoutine, Section};
 use irp_types::{
     CancelAnswer, CancelId, DispatchId, Known, Plan, Replacement, RoutineId, Row, Rule, Setting,

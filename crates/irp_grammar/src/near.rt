@@ -1,12 +1,10 @@
 //! What may be meant by a word.
 
-use crate::act::ACTS;
+use crate::act::keys_of;
 use crate::condition::ANSWERS;
 use crate::names::{Kind, Names};
-use crate::numbers::{MINORS, STATUSES};
 use crate::wanted::Wanted;
-use irp_names::{major_name, status_name};
-use irp_types::Status;
+use irp_names::{Act, major_name, minor_at, plan_names, rule_names, status_names};
 use std::alloc::{AllocError, Global};
 use strsim::levenshtein;
 
@@ -24,28 +22,15 @@ static HEADINGS: &[&str] = &[
     "steps",
 ];
 
-/// The words of plans.
-static PLANS: &[&str] = &[
-    "finish",
-    "hold",
-    "hold_slot",
-    "skip",
-    "forward",
-    "forward_pend",
-];
-
-/// The rules of completion routines.
-static RULES: &[&str] = &["watch", "change", "keeper", "keep_on_error", "free"];
-
 /// The words that may stand where this was expected, and whether a heading may.
 fn words_at(wanted: Wanted) -> (&'static [&'static str], bool) {
     match wanted {
         Wanted::Heading => (&[], true),
-        Wanted::Rule => (RULES, true),
-        Wanted::Routine => (RULES, false),
+        Wanted::Rule => (rule_names(), true),
+        Wanted::Routine => (rule_names(), false),
         Wanted::Behaviour => (&["continue", "keep", "replace"], false),
         Wanted::CancelAnswer => (&["finish", "leave"], true),
-        Wanted::Plan => (PLANS, true),
+        Wanted::Plan => (plan_names(), true),
         Wanted::Party => (&["originator"], false),
         Wanted::Cancel => (&["none"], false),
         Wanted::Act => (&["seat", "stack", "if"], true),
@@ -72,12 +57,12 @@ fn kind_at(wanted: Wanted) -> Option<Kind> {
 fn name_at(wanted: Wanted, number: u8) -> Option<&'static str> {
     let place = usize::from(number);
     match wanted {
-        Wanted::Status => status_name(Status(*STATUSES.get(place)?)),
+        Wanted::Status => Some(status_names().get(place)?.1),
         Wanted::Major => major_name(number),
-        Wanted::Minor => Some(MINORS.get(place)?.2),
-        Wanted::Act => Some(ACTS.get(place)?.word()),
+        Wanted::Minor => minor_at(place),
+        Wanted::Act => Some(Act::at(place)?.word()),
         Wanted::Answer => answer_at(place),
-        Wanted::Key(act) => Some(act.keys().get(place)?.word()),
+        Wanted::Key(act) => Some(keys_of(act).get(place)?.word()),
         _ => None,
     }
 }
@@ -88,7 +73,7 @@ fn answer_at(place: usize) -> Option<&'static str> {
         return Some(*word);
     }
     let place = place.saturating_sub(ANSWERS.len());
-    status_name(Status(*STATUSES.get(place)?))
+    Some(status_names().get(place)?.1)
 }
 
 /// Appends the names that may stand where this was expected.

@@ -3,7 +3,7 @@
 ghost use Rattle.std.specs.Prelude.{◌≡◌};
 ghost use Rattle.irp_grammar.specs.Saying.{other_act, party_call, step_of};
 
-use crate::act::Act;
+use irp_names::Act;
 use irp_script_reader::{Condition, Named, Step, StepAct};
 use irp_types::{
     Call, CancelId, DeviceId, DriverId, Hand, LockAct, LockNo, Party, RoutineId, Rule, Setting,

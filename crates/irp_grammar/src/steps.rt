@@ -1,13 +1,14 @@
 //! Steps, each by its line, and a stack of devices in one line.
 
-use crate::act::{Act, Key};
+use crate::act::{Key, keys_of};
 use crate::cursor::Cursor;
 use crate::members::{byte_in, take_major, take_number, take_setting, take_status};
 use crate::names::{Kind, is_label, number_below};
-use crate::numbers::{begins_with_digit, minor_named, number_in};
+use crate::numbers::{begins_with_digit, number_in};
 use crate::said::Said;
 use crate::step_line::{StepLine, Values};
 use crate::wanted::Wanted;
+use irp_names::{Act, minor_named};
 use irp_script_reader::{Condition, Named, Section};
 use irp_types::{CancelId, DeviceId, DriverId, IrpRef, LockNo, Party};
 
@@ -166,7 +167,7 @@ impl<'a> Said<'a> {
     fn take_values(&mut self, act: Act, words: &mut Cursor<'a, '_>) -> Option<Values> {
         let mut values = Values::NONE;
         let mut taken = [false; 4];
-        for _ in act.keys() {
+        for _ in keys_of(act) {
             let read = key_of(act, words.text(), &mut taken);
             let key = words.taken(read, Wanted::Key(act))?;
             self.take_value(key, &mut values, words)?;
@@ -288,7 +289,7 @@ impl<'a> Said<'a> {
 
 /// The key of a step that a word names, and that wasn't taken; from then on it is.
 fn key_of(act: Act, text: &str, taken: &mut [bool]) -> Option<Key> {
-    for (key, is_taken) in act.keys().iter().zip(taken.iter_mut()) {
+    for (key, is_taken) in keys_of(act).iter().zip(taken.iter_mut()) {
         if key.word() == text && !*is_taken {
             *is_taken = true;
             return Some(*key);

@@ -1,6 +1,6 @@
 //! What lines say, written as the JSON of a script.
 
-use crate::act::Key;
+use crate::act::{Key, keys_of};
 use crate::condition::put_condition;
 use crate::said::Said;
 use crate::step_line::{StepLine, Values};
@@ -168,7 +168,7 @@ fn put_step(text: &mut Written, step: &StepLine, labels: &[&str]) {
     text.number(u64::from(step.seat));
     text.put(",\"do\":");
     text.quoted(step.act.word());
-    for key in step.act.keys() {
+    for key in keys_of(step.act) {
         text.put(",");
         text.quoted(key.word());
         text.put(":");

@@ -1,13 +1,12 @@
 //! A script of JSON, written in words. What writes a word writes a blank before it.
 
-use crate::act::{Act, Key};
+use crate::act::{Key, keys_of};
 use crate::condition::answer_word;
 use crate::members::{count_of, with_one};
-use crate::numbers::minor_name;
 use crate::to_json::letters;
 use crate::written::Written;
 use irp_forms::{HasName, under};
-use irp_names::{major_name, status_name};
+use irp_names::{Act, major_name, minor_name, status_name};
 use irp_script_reader::{
     Behaviour, CompletionRoutine, Condition, ExpectedAnswer, ScriptFault, ScriptForm, ScriptParts,
     Step, read_script,
@@ -284,7 +283,7 @@ fn put_step(text: &mut Written, step: &Value, place: usize, steps: &[Step], coun
         put_condition(text, *condition, counts.known);
     }
     put_word(text, act.word());
-    for key in act.keys() {
+    for key in keys_of(act) {
         put_word(text, key.word());
         put_value(text, *key, step, counts);
     }

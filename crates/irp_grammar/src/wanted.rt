@@ -1,8 +1,9 @@
 //! What was expected in the place of a word.
 
-use crate::act::Act;
+use crate::act::keys_of;
 use crate::names::Kind;
 use crate::written::Written;
+use irp_names::Act;
 use irp_script_reader::{MemberFault, ScriptRefusal, Section};
 
 /// What was expected in the place of a word (this project's own rule).
@@ -206,7 +207,7 @@ fn put_keys(text: &mut Written, act: Act) {
     text.put("a key of ");
     text.put(act.word());
     text.put(", each once:");
-    for key in act.keys() {
+    for key in keys_of(act) {
         text.put(" ");
         text.put(key.word());
     }

@@ -115,6 +115,16 @@ followed_stays fixed history entry wrong is =
     let within : wrong.at < length history = slice_get_within history wrong.at is.entry is.there in
     ap (λ (given : List Entry). given ++ wrong.made ∷ []) (begins history entry wrong.at (omega (arith, within)))
 
+-- behind this history, which leads to the old state, the manager goes on to the new one with an entry that isn't this one
+pub record IsRefuted (fixed : Fixed) (history : List Entry) (old new : StateValue) (entry : Entry) (wrong : Wrong) : Type 0 where
+  pub place : wrong.at ≡ length history
+  pub stands : StandingFacts fixed.tables.counts old
+  pub leads : LeadsTo fixed history old
+  pub made : IsMadeOf fixed wrong.at old entry wrong.made new
+  pub differs : Differs wrong.difference entry wrong.made
+  pub apart : entry ≡ wrong.made → ⊥
+  pub cause : wrong.cause ≡ cause_in new wrong.made.call wrong.made.reply
+
 module _ (goes_on : HistoryGoesOn) (settles : HistorySettlesStates) (fixed : Fixed) (history : List Entry) (old new : StateValue) (entry : Entry) where
   -- the entry that the manager makes follows
   made_leads : (made : Entry) (place : ℕ) → place ≡ length history → LeadsTo fixed history old → IsMadeOf fixed place old entry made new → LeadsTo fixed (history ++ made ∷ []) new
@@ -124,31 +134,29 @@ module _ (goes_on : HistoryGoesOn) (settles : HistorySettlesStates) (fixed : Fix
   pub right_leads : (made : Entry) (place : ℕ) → place ≡ length history → LeadsTo fixed history old → IsMadeOf fixed place old entry made new → entry ≡ made → LeadsTo fixed (history ++ entry ∷ []) new
   right_leads made place is leads of same = subst (λ (given : Entry). LeadsTo fixed (history ++ given ∷ []) new) (sym same) (made_leads made place is leads of)
 
-  -- one that isn't is the first that isn't legal
-  module _ (wrong : Wrong) (place : wrong.at ≡ length history) (stands : StandingFacts fixed.tables.counts old) (leads : LeadsTo fixed history old)
-      (is : IsMadeOf fixed wrong.at old entry wrong.made new) (differs : Differs wrong.difference entry wrong.made) (apart : entry ≡ wrong.made → ⊥)
-      (cause : wrong.cause ≡ cause_in new wrong.made.call wrong.made.reply) where
+  -- it is the first that isn't legal
+  module _ (wrong : Wrong) (is : IsRefuted fixed history old new entry wrong) where
     longer : List Entry
     longer = history ++ entry ∷ []
 
     before : take wrong.at longer ≡ history
     unfolding longer
-    before = whole history entry wrong.at place
+    before = whole history entry wrong.at is.place
 
     there : slice_get longer wrong.at ≡ Some entry
     unfolding longer
-    there = ap (slice_get longer) place ∙ get_last history entry
+    there = ap (slice_get longer) is.place ∙ get_last history entry
 
     on : LeadsTo fixed (take wrong.at longer ++ wrong.made ∷ []) new
-    on = subst (λ (given : List Entry). LeadsTo fixed (given ++ wrong.made ∷ []) new) (sym before) (made_leads wrong.made wrong.at place leads is)
+    on = subst (λ (given : List Entry). LeadsTo fixed (given ++ wrong.made ∷ []) new) (sym before) (made_leads wrong.made wrong.at is.place is.leads is.made)
 
     led : LeadsTo fixed (take wrong.at longer) old
-    led = subst (λ (given : List Entry). LeadsTo fixed given old) (sym before) leads
+    led = subst (λ (given : List Entry). LeadsTo fixed given old) (sym before) is.leads
 
     first : IsFirstIllegal fixed longer wrong.at
     first = (
       (led.0, led.1),
-      not_legal settles fixed longer wrong.at old entry there led (is.other (λ same. apart (sym same))),
+      not_legal settles fixed longer wrong.at old entry there led (is.made.other (λ same. is.apart (sym same))),
     )
 
     -- the entries before it lead to no other state
@@ -160,8 +168,8 @@ module _ (goes_on : HistoryGoesOn) (settles : HistorySettlesStates) (fixed : Fix
 
     same_cause : (state : StateValue) → LeadsTo fixed (take wrong.at longer) state → wrong.cause ≡ cause_in state wrong.made.call wrong.made.reply
     same_cause state other =
-        cause
-        ∙ cause_stays fixed old new wrong.made.drained wrong.made.call wrong.made.asked wrong.made.reply is.follows.step
+        is.cause
+        ∙ cause_stays fixed old new wrong.made.drained wrong.made.call wrong.made.asked wrong.made.reply is.made.follows.step
         ∙ ap (λ (given : StateValue). cause_in given wrong.made.call wrong.made.reply) (same_state state other)
 
     pub wrong_here : IsWrong fixed (history ++ entry ∷ []) wrong
@@ -170,15 +178,15 @@ module _ (goes_on : HistoryGoesOn) (settles : HistorySettlesStates) (fixed : Fix
       first = first;
       entry = entry;
       there = there;
-      seat = is.seat;
-      call = is.call;
+      seat = is.made.seat;
+      call = is.made.call;
       goes_on = (on.0, on.1);
-      told = is.told;
-      drained = is.drained;
-      slot = λ state other. subst (λ (given : StateValue). IsSlotTold given entry wrong.made) (same_state state other) is.slot;
-      differs = differs;
+      told = is.made.told;
+      drained = is.made.drained;
+      slot = λ state other. subst (λ (given : StateValue). IsSlotTold given entry wrong.made) (same_state state other) is.made.slot;
+      differs = is.differs;
       unallowed = difference_unallowed fixed.tables entry wrong.made wrong.difference
-          (step_apart fixed old new wrong.made.drained wrong.made.call wrong.made.asked wrong.made.reply stands is.follows.step) is.told differs;
+          (step_apart fixed old new wrong.made.drained wrong.made.call wrong.made.asked wrong.made.reply is.stands is.made.follows.step) is.made.told is.differs;
       cause = same_cause;
     }
 

@@ -1,19 +1,16 @@
 -- What a judge has judged, once it is fed one more entry.
-use Rattle.std.proofs.Common.{◌≡◌, ℕ, ◌+◌, true, false, is_some, List, [], ◌∷◌, ◌++◌, length, refl, sym, subst, ◌∙◌, arith, Option, Some, None, length-append}
+use Rattle.std.proofs.Common.{◌≡◌, ℕ, ◌+◌, true, false, is_some, List, [], ◌∷◌, ◌++◌, length, refl, sym, subst, arith, Option, Some, None, length-append}
 use mathlib.Core.Bool.{true≢false}
 use Rattle.irp_types.specs.State.{StateValue, Fixed, opening_state}
 use Rattle.irp_types.specs.Histories.{LeadsTo, HistoryGoesOn, HistorySettlesStates}
-use Rattle.irp_types.specs.Standing.{StandingFacts}
 use Rattle.irp_types.specs.declared.entry.Entry.{Entry}
 use Rattle.irp_transcript.specs.Headers.{fixed_of}
 use Rattle.irp_transcript.specs.declared.header.Header.{Header}
-use Rattle.irp_judge.specs.Differences.{Differs}
-use Rattle.irp_judge.specs.Causes.{cause_in}
 use Rattle.irp_judge.specs.Checked.{IsFirstWrong, IsVerdict, verdict_of}
 use Rattle.irp_judge.specs.Judging.{JudgeValue, HasJudged, followed}
 use Rattle.irp_judge.specs.Replayed.{IsMadeOf}
 use Rattle.irp_judge.specs.declared.verdict.Wrong.{Wrong}
-use Rattle.irp_judge.proofs.Feeding.{right_leads, wrong_here, wrong_leads, wrong_stays, followed_stays}
+use Rattle.irp_judge.proofs.Feeding.{IsRefuted, right_leads, wrong_here, wrong_leads, wrong_stays, followed_stays}
 use Rattle.irp_judge.proofs.Verdicts.{opens, legal_verdict, illegal_verdict}
 
 -- before the first entry
@@ -24,7 +21,7 @@ judged_nothing header state is =
     record { counted = refl; wrong = (leads.0, leads.1); state = leads }
 
 -- where nothing was wrong, the state is behind all entries
-leads_all : (judge : JudgeValue) (history : List Entry) → HasJudged judge history → judge.wrong ≡ None → LeadsTo (fixed_of judge.header) history judge.state
+pub leads_all : (judge : JudgeValue) (history : List Entry) → HasJudged judge history → judge.wrong ≡ None → LeadsTo (fixed_of judge.header) history judge.state
 leads_all judge history has none =
     subst (λ (wrong : Option Wrong). LeadsTo (fixed_of judge.header) (followed history wrong) judge.state) none has.state
 
@@ -41,19 +38,14 @@ judged_right goes_on settles judge history entry made new has none is same =
 
 -- one that isn't
 pub judged_wrong : HistoryGoesOn → HistorySettlesStates → (judge : JudgeValue) (history : List Entry) (entry : Entry) (wrong : Wrong) (new : StateValue)
-    → HasJudged judge history → judge.wrong ≡ None → StandingFacts judge.header.completions judge.state → wrong.at ≡ judge.fed
-    → IsMadeOf (fixed_of judge.header) judge.fed judge.state entry wrong.made new → Differs wrong.difference entry wrong.made → (entry ≡ wrong.made → ⊥)
-    → wrong.cause ≡ cause_in new wrong.made.call wrong.made.reply
+    → HasJudged judge history → IsRefuted (fixed_of judge.header) history judge.state new entry wrong
     → HasJudged (record { header = judge.header; fed = judge.fed + 1; wrong = Some wrong; state = new }) (history ++ entry ∷ [])
-judged_wrong goes_on settles judge history entry wrong new has none stands place is differs apart cause =
+judged_wrong goes_on settles judge history entry wrong new has is =
     let fixed : Fixed = fixed_of judge.header in
-    let leads = leads_all judge history has none in
-    let at : wrong.at ≡ length history = place ∙ has.counted in
-    let made : IsMadeOf fixed wrong.at judge.state entry wrong.made new = subst (λ (number : ℕ). IsMadeOf fixed number judge.state entry wrong.made new) (sym place) is in
     record {
       counted = more history entry judge.fed has.counted;
-      wrong = wrong_here goes_on settles fixed history judge.state new entry wrong at stands leads made differs apart cause;
-      state = wrong_leads goes_on settles fixed history judge.state new entry wrong at stands leads made differs apart cause;
+      wrong = wrong_here goes_on settles fixed history judge.state new entry wrong is;
+      state = wrong_leads goes_on settles fixed history judge.state new entry wrong is;
     }
 
 -- one behind what was wrong

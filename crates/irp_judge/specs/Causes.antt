@@ -9,7 +9,6 @@ use Rattle.irp_types.specs.Stacks.{DevicesValue, stack_of, stack_size_of, lower_
 use Rattle.irp_types.specs.State.{StateValue, LivePacket, live_at}
 use Rattle.irp_types.specs.declared.names.DeviceId.{DeviceId}
 use Rattle.irp_types.specs.declared.names.IrpRef.{IrpRef}
-use Rattle.irp_types.specs.declared.call.Party.{Party}
 use Rattle.irp_types.specs.declared.call.Party.TheVariants as by
 use Rattle.irp_types.specs.declared.call.Call.TheVariants as call
 use Rattle.irp_types.specs.declared.refusal.Refusal.{Refusal}
@@ -28,14 +27,9 @@ abbrev pub needed_by : DevicesValue → Call → ℕ
 needed_by devices (call.CallDriver party irp target) = stack_size_of devices target.0
 needed_by devices _ = 1
 
--- the device that sends
-abbrev pub sender : Party → Option DeviceId
-sender by.Originator = None
-sender (by.Device device) = Some device
-
--- the device that a call would send from, attach, attach to, or delete
+-- the device that a call would send from; that it would attach or delete; and that it would attach to
 abbrev pub sending : Call → Option DeviceId
-sending (call.CallDriver party irp target) = sender party
+sending (call.CallDriver (by.Device device) irp target) = Some device
 sending _ = None
 
 abbrev pub moving : Call → Option DeviceId
@@ -46,6 +40,10 @@ moving _ = None
 abbrev pub growing : Call → Option DeviceId
 growing (call.Attach device to) = Some to
 growing _ = None
+
+-- what is told of this, where it is there
+abbrev pub told_of : {A : Type 0} → Option A → (A → Cause) → Cause
+told_of found tells = option_map_or tells found Nothing
 
 -- what of a packet a refusal comes from, where a call needs so many locations below its current one; and of the packet
 -- that a call names
@@ -64,34 +62,28 @@ packet_cause needed live _ = Nothing
 
 abbrev pub live_cause : StateValue → Call → Refusal → Cause
 live_cause state call refusal =
-    option_map_or (λ (live : LivePacket). packet_cause (needed_by state.devices call) live refusal)
-    (live_named state call) Nothing
+    told_of (live_named state call) (λ live. packet_cause (needed_by state.devices call) live refusal)
 
 -- a limit that was reached: of devices for who creates one, else of packets or uses
 abbrev pub full_cause : StateValue → Call → Cause
 full_cause state (call.CreateDevice driver lock) = Devices (length state.devices.facts)
 full_cause state _ = Packets (fin.len state.live) state.next_use
 
--- a device by its number
-abbrev pub device_of : ℕ → DeviceId
-device_of number = record { 0 = number }
-
--- the devices beside a device
-abbrev pub neighbours_of : DevicesValue → DeviceId → Cause
-neighbours_of devices device =
-    Neighbours (option_map device_of (lower_of devices device.0)) (option_map device_of (upper_of devices device.0))
+-- a device by its number, if there is one
+abbrev pub device_of : Option ℕ → Option DeviceId
+device_of found = option_map (λ (number : ℕ). record { 0 = number }) found
 
 -- what of the state a refusal of a call comes from
 abbrev pub cause_of : StateValue → Call → Refusal → Cause
 cause_of state call refusal.NoDevice = Devices (length state.devices.facts)
 cause_of state call refusal.Full = full_cause state call
 cause_of state call refusal.WrongTarget =
-    option_map_or (λ (device : DeviceId). Lower (option_map device_of (lower_of state.devices device.0)))
-    (sending call) Nothing
-cause_of state call refusal.StillAttached = option_map_or (neighbours_of state.devices) (moving call) Nothing
+    told_of (sending call) (λ device. Lower (device_of (lower_of state.devices device.0)))
+cause_of state call refusal.StillAttached = told_of (moving call) (λ device.
+    Neighbours (device_of (lower_of state.devices device.0)) (device_of (upper_of state.devices device.0)))
 cause_of state call refusal.TooDeep =
-    option_map_or (λ (to : DeviceId). Stack (length (stack_of state.devices to.0))) (growing call) Nothing
-cause_of state call refusal.NotDrained = option_map_or Lock (lock_of state call) Nothing
+    told_of (growing call) (λ to. Stack (length (stack_of state.devices to.0)))
+cause_of state call refusal.NotDrained = told_of (lock_of state call) Lock
 cause_of state call other = live_cause state call other
 
 -- what of the state a reply comes from, where it is a refusal

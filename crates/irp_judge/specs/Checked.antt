@@ -42,20 +42,13 @@ IsVerdictOn transcript verdict = IsVerdictWith transcript.header transcript.entr
 
 -- where a question differs in its answer alone, the tables don't allow the answer; the same of two entries
 abbrev pub IsPartUnallowed : Tables → ℕ → QuestionPart → List Asked → Type 0
-IsPartUnallowed tables at part.TooMany asked = ⊤
-IsPartUnallowed tables at part.TooFew asked = ⊤
-IsPartUnallowed tables at part.Closure asked = ⊤
-IsPartUnallowed tables at (part.Shown field) asked = ⊤
 IsPartUnallowed tables at part.Answer asked =
     (question : Asked) → slice_get asked at ≡ Some question → is_answer_allowed tables question ≡ false
+IsPartUnallowed tables at other asked = ⊤
 
 abbrev pub IsUnallowed : Tables → Difference → List Asked → Type 0
-IsUnallowed tables kind.Number asked = ⊤
-IsUnallowed tables kind.Lock asked = ⊤
-IsUnallowed tables kind.Drained asked = ⊤
-IsUnallowed tables kind.Refusal asked = ⊤
 IsUnallowed tables (kind.Question at part) asked = IsPartUnallowed tables at part asked
-IsUnallowed tables kind.Reply asked = ⊤
+IsUnallowed tables other asked = ⊤
 
 -- what is wrong with a history: the entry at this place is the first that isn't legal. There the manager goes on with
 -- another entry of the same seat and call, in which closures answered what the wrong one tells of them, where they may;

@@ -8,7 +8,7 @@ use Rattle.irp_types.specs.declared.call.Call.TheVariants.{Allocate}
 use Rattle.irp_types.specs.declared.entry.Entry.{Entry}
 use Rattle.irp_types.specs.declared.names.IrpRef.{IrpRef}
 use Rattle.irp_types.specs.declared.reply.Reply.{Reply}
-use Rattle.irp_types.specs.declared.reply.Reply.TheVariants.{Done, Device, Irp, Status as StatusIs, Previous, Cancelled, Seen as SeenAs, Refused}
+use Rattle.irp_types.specs.declared.reply.Reply.TheVariants.{Irp}
 
 -- no step makes this entry of a state
 abbrev pub IsNoEntryAt : Fixed → ℕ → StateValue → Entry → Type 0
@@ -40,11 +40,5 @@ pub record IsMadeOf (fixed : Fixed) (number : ℕ) (old : StateValue) (entry mad
 
 -- the slot of the packet that a reply names
 abbrev pub slot_named : Reply → Option ℕ
-slot_named Done = None
-slot_named (Device device) = None
 slot_named (Irp irp) = Some irp.slot
-slot_named (StatusIs status) = None
-slot_named (Previous routine) = None
-slot_named (Cancelled asked) = None
-slot_named (SeenAs seen) = None
-slot_named (Refused refusal) = None
+slot_named other = None

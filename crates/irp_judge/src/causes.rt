@@ -5,28 +5,21 @@ ghost use Rattle.std.specs.Option.{option_map};
 ghost use Rattle.irp_types.specs.Stacks.{lower_of};
 ghost use Rattle.irp_manager.specs.Keeps.{mapped};
 ghost use Rattle.irp_manager.specs.ManagerStates.{state_of};
-ghost use Rattle.irp_judge.specs.Causes.{sender, sending, moving, growing, needed_by, packet_cause, live_cause, full_cause, neighbours_of, device_of, cause_of, cause_in};
+ghost use Rattle.irp_judge.specs.Causes.{sending, moving, growing, needed_by, packet_cause, live_cause, full_cause, device_of, cause_of, cause_in};
 
 use crate::cause::Cause;
 use irp_manager::{Live, ManagerState, MapKeep};
 use irp_types::{Call, DeviceId, Party, Refusal, Reply};
-
-/// The device that sends.
-fn sender(party: Party) -> Option<DeviceId>
-    ensures { result ≡ sender party }
-{
-    match party {
-        Party::Originator => None,
-        Party::Device(device) => Some(device),
-    }
-}
 
 /// The device that a call would send from.
 fn sending(call: Call) -> Option<DeviceId>
     ensures { result ≡ sending call }
 {
     match call {
-        Call::CallDriver { party, .. } => sender(party),
+        Call::CallDriver {
+            party: Party::Device(device),
+            ..
+        } => Some(device),
         _ => None,
     }
 }

@@ -2,15 +2,15 @@
 
 use crate::fault::{Path, Step, What};
 use crate::search::{Search, Task};
-use crate::shape::{Kind, Name, Sort};
+use crate::shape::{Deed, Kind, Name, Sort};
 use crate::told::told_of;
 use serde_json::Value;
 
-/// The kind with this name.
-fn kind_named(kinds: &'static [Kind], name: &str) -> Option<Kind> {
-    for kind in kinds {
-        if kind.name == name {
-            return Some(*kind);
+/// The one whose step has this word.
+fn deed_named(deeds: &'static [Deed], word: &str) -> Option<Deed> {
+    for deed in deeds {
+        if deed.act.word() == word {
+            return Some(*deed);
         }
     }
     None
@@ -55,29 +55,31 @@ fn text_at<'a>(value: &'a Value, place: usize) -> &'a str {
 }
 
 impl<'a> Search<'a> {
-    /// Looks at an object of the kind with this name.
-    fn look_by_name(&mut self, task: Task<'a>, kinds: &'static [Kind], name: &str) {
+    /// Looks at an object of the step with this word.
+    fn look_by_word(&mut self, task: Task<'a>, deeds: &'static [Deed], word: &str) {
         let two = self.is_two();
         let path = task.path.then(Step::Under("do"));
-        match kind_named(kinds, name) {
-            Some(kind) if kind.two && !two => self.fails(path, What::FormOneHasNo(kind.name)),
-            Some(kind) => self.look_at_keys(task.value, task.path, kind.name, kind.keys),
+        match deed_named(deeds, word) {
+            Some(deed) if deed.two && !two => {
+                self.fails(path, What::FormOneHasNo(deed.act.word()))
+            }
+            Some(deed) => self.look_at_keys(task.value, task.path, deed.act.word(), deed.keys),
             None => {
                 let noun = told_of(task.part);
-                self.fails(path, What::OtherName { noun, kinds, two })
+                self.fails(path, What::OtherName { noun, deeds, two })
             }
         }
     }
 
-    /// Looks at an object of the kind whose name it has under `do`.
-    pub fn look_by_do(&mut self, task: Task<'a>, kinds: &'static [Kind]) {
+    /// Looks at an object of the step whose word it has under `do`.
+    pub fn look_by_do(&mut self, task: Task<'a>, deeds: &'static [Deed]) {
         let noun = told_of(task.part);
         if !task.value.is_object() {
             self.fails(task.path, What::NoName { noun });
             return;
         }
         match task.value.get("do") {
-            Some(name) => self.look_by_name(task, kinds, name.as_str().unwrap_or("")),
+            Some(word) => self.look_by_word(task, deeds, word.as_str().unwrap_or("")),
             None => self.misses(task.path, "do", What::MissingName { noun }),
         }
     }

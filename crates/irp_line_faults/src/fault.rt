@@ -1,6 +1,6 @@
 //! What isn't as it should be, and where.
 
-use crate::shape::{Key, Kind, Name, Part, Sort};
+use crate::shape::{Deed, Key, Kind, Name, Part, Sort};
 
 /// As many steps as a path has room for. The longest leads to an item of a plan's setting, and has five.
 const MOST_STEPS: usize = 6;
@@ -78,10 +78,10 @@ pub enum What {
     MissingName {
         noun: &'static str,
     },
-    /// Its name is none of these.
+    /// It has the word of none of these steps.
     OtherName {
         noun: &'static str,
-        kinds: &'static [Kind],
+        deeds: &'static [Deed],
         two: bool,
     },
     /// It is none of these texts, and no object of these kinds.

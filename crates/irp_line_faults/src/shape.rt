@@ -1,5 +1,7 @@
 //! What a part of a line may be.
 
+use irp_names::Act;
+
 /// A part of a line. `told_of` says what it is, `shape_of` what it may be.
 #[derive(Clone, Copy)]
 pub enum Part {
@@ -80,6 +82,24 @@ pub enum Part {
 /// A key of an object, and what stands under it.
 pub type Key = (&'static str, Part);
 
+/// An object that has a step's word under `do`, with exactly these keys.
+#[derive(Clone, Copy)]
+pub struct Deed {
+    pub act: Act,
+    pub keys: &'static [Key],
+    /// Whether only form 2 has it.
+    pub two: bool,
+}
+
+/// Such objects, a row each: the step, whether only form 2 has it, and its keys with what stands under each.
+macro_rules! deeds {
+    ($($act:ident $two:literal [$($key:literal $part:ident)*];)*) => {
+        [$(Deed { act: Act::$act, keys: &[$(($key, Part::$part)),*], two: $two }),*]
+    };
+}
+
+pub(crate) use deeds;
+
 /// An object of one kind, with exactly these keys.
 #[derive(Clone, Copy)]
 pub struct Kind {
@@ -140,8 +160,8 @@ pub enum Shape {
     },
     /// An object with exactly these keys; it is told by its noun.
     Keys(&'static [Key]),
-    /// An object of the kind whose name it has under `do`; told by its noun.
-    ByDo(&'static [Kind]),
+    /// An object that has under `do` the word of one of these steps; told by its noun.
+    ByDo(&'static [Deed]),
     /// One of these texts, or an object of the kind of which it has the key that gives the kind its name; told by its
     /// noun, and by that of such an object.
     ByKey {

@@ -6,6 +6,7 @@ use crate::questions::{CANCEL_ANSWERS, COMPLETION_ANSWERS, PLANS, QUESTIONS};
 use crate::replies::{DONE, VALUED};
 use crate::shape::{Part, Shape};
 use crate::steps::{ANSWERS, STEPS, VALUED_ANSWERS};
+use irp_names::rule_names;
 
 /// A number up to this one.
 fn up_to(most: u64) -> Shape {
@@ -58,7 +59,7 @@ fn shape_of_value(part: Part) -> Shape {
         Part::Form => Shape::OneOf(&[1, 2]),
         Part::Party => Shape::TextOrNumber(&["o"]),
         Part::Owner => Shape::TextOrNumber(&["o", "ended"]),
-        Part::Rule => Shape::Text(&["watch", "change", "keeper", "keep_on_error", "free"]),
+        Part::Rule => Shape::Text(rule_names()),
         Part::CancelRule => Shape::Text(&["must_finish", "must_leave", "either"]),
         Part::Flags => Shape::Text(&["", "c", "e", "ec", "s", "sc", "se", "sec"]),
         Part::Refusal => Shape::Refusal,

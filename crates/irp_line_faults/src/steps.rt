@@ -1,6 +1,7 @@
 //! Word lines: steps on remove locks and cancel slots.
 
-use crate::shape::{Key, Kind, Name, Part};
+use crate::shape::{Deed, Kind, Name, Part, deeds};
+use irp_names::Act;
 
 /// What a step may be answered without a value.
 pub static ANSWERS: [Name; 13] = [
@@ -77,83 +78,15 @@ pub static VALUED_ANSWERS: [Kind; 3] = [
     },
 ];
 
-/// The keys of a step with a reference, and of a step on a cancel slot.
-const TAGGED: &[Key] = &[
-    ("do", Part::Any),
-    ("lock", Part::Lock),
-    ("reply", Part::WordReply),
-    ("seat", Part::Seat),
-    ("step", Part::Step),
-    ("tag", Part::Tag),
-];
-
-const ON_SLOT: &[Key] = &[
-    ("do", Part::Any),
-    ("reply", Part::WordReply),
-    ("seat", Part::Seat),
-    ("slot", Part::Slot),
-    ("step", Part::Step),
-];
-
-/// The steps in the order of their names.
-pub static STEPS: [Kind; 9] = [
-    Kind {
-        name: "acquire",
-        keys: TAGGED,
-        two: false,
-    },
-    Kind {
-        name: "begin_remove",
-        keys: TAGGED,
-        two: false,
-    },
-    Kind {
-        name: "drained",
-        keys: &[
-            ("do", Part::Any),
-            ("lock", Part::Lock),
-            ("reply", Part::WordReply),
-            ("seat", Part::Seat),
-            ("step", Part::Step),
-        ],
-        two: false,
-    },
-    Kind {
-        name: "finish_taken",
-        keys: ON_SLOT,
-        two: true,
-    },
-    Kind {
-        name: "hand",
-        keys: &[
-            ("do", Part::Any),
-            ("lock", Part::Lock),
-            ("reply", Part::WordReply),
-            ("seat", Part::Seat),
-            ("step", Part::Step),
-            ("tag", Part::Tag),
-            ("to", Part::Seat),
-        ],
-        two: true,
-    },
-    Kind {
-        name: "publish",
-        keys: ON_SLOT,
-        two: true,
-    },
-    Kind {
-        name: "release",
-        keys: TAGGED,
-        two: false,
-    },
-    Kind {
-        name: "request",
-        keys: ON_SLOT,
-        two: true,
-    },
-    Kind {
-        name: "withdraw",
-        keys: ON_SLOT,
-        two: true,
-    },
-];
+/// The steps in the order of their words.
+pub static STEPS: [Deed; 9] = deeds! {
+    Acquire false ["do" Any "lock" Lock "reply" WordReply "seat" Seat "step" Step "tag" Tag];
+    BeginRemove false ["do" Any "lock" Lock "reply" WordReply "seat" Seat "step" Step "tag" Tag];
+    Drained false ["do" Any "lock" Lock "reply" WordReply "seat" Seat "step" Step];
+    FinishTaken true ["do" Any "reply" WordReply "seat" Seat "slot" Slot "step" Step];
+    Hand true ["do" Any "lock" Lock "reply" WordReply "seat" Seat "step" Step "tag" Tag "to" Seat];
+    Publish true ["do" Any "reply" WordReply "seat" Seat "slot" Slot "step" Step];
+    Release false ["do" Any "lock" Lock "reply" WordReply "seat" Seat "step" Step "tag" Tag];
+    Request true ["do" Any "reply" WordReply "seat" Seat "slot" Slot "step" Step];
+    Withdraw true ["do" Any "reply" WordReply "seat" Seat "slot" Slot "step" Step];
+};

@@ -1,7 +1,7 @@
 //! Faults in words.
 
 use crate::fault::{Path, Step, What};
-use crate::shape::{Key, Kind, Name, Sort};
+use crate::shape::{Deed, Key, Kind, Name, Sort};
 use crate::told::told_of;
 use std::alloc::{AllocError, Global};
 
@@ -100,6 +100,18 @@ fn put_keys(words: &mut Words, said: &str, keys: &[Key]) {
     for (at, key) in keys.iter().enumerate() {
         words.put(if at == 0 { "" } else { ", " });
         words.put(key.0);
+    }
+}
+
+/// Puts the words of the steps, of form 1 or of both, with commas.
+fn put_deeds(words: &mut Words, deeds: &[Deed], two: bool) {
+    let mut between = "";
+    for deed in deeds {
+        if two || !deed.two {
+            words.put(between);
+            words.put(deed.act.word());
+            between = ", ";
+        }
     }
 }
 
@@ -217,9 +229,9 @@ pub fn put_what(words: &mut Words, what: What) {
     match what {
         What::NoObject { keys, .. } => put_keys(words, " is an object with", keys),
         What::Missing { keys, .. } | What::Unknown { keys, .. } => put_keys(words, " has", keys),
-        What::OtherName { kinds, two, .. } => {
+        What::OtherName { deeds, two, .. } => {
             words.put(" is one of ");
-            put_kinds(words, kinds, two);
+            put_deeds(words, deeds, two);
         }
         What::OtherKey {
             names,

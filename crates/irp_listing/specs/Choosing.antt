@@ -4,18 +4,12 @@ use Rattle.irp_types.specs.Calls.{packet_named}
 use Rattle.irp_types.specs.declared.entry.Entry.{Entry}
 use Rattle.irp_types.specs.declared.names.IrpRef.{IrpRef}
 use Rattle.irp_types.specs.declared.reply.Reply.{Reply}
-use Rattle.irp_types.specs.declared.reply.Reply.TheVariants.{Done, Device, Irp, Status as StatusIs, Previous, Cancelled, Seen as SeenAs, Refused}
+use Rattle.irp_types.specs.declared.reply.Reply.TheVariants.{Irp}
 
 -- the packet that a reply gives
 abbrev pub packet_in : Reply → Option IrpRef
-packet_in Done = None
-packet_in (Device device) = None
 packet_in (Irp irp) = Some irp
-packet_in (StatusIs status) = None
-packet_in (Previous routine) = None
-packet_in (Cancelled asked) = None
-packet_in (SeenAs seen) = None
-packet_in (Refused refusal) = None
+packet_in other = None
 
 -- an entry names this use of a packet: its call does, or its reply gives it
 abbrev pub NamesUse : IrpRef → Entry → Type 0

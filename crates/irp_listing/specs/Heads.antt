@@ -9,7 +9,7 @@ use Rattle.irp_types.specs.declared.call.Party.{Party}
 use Rattle.irp_types.specs.declared.entry.Entry.{Entry}
 use Rattle.irp_types.specs.declared.refusal.Refusal.{Refusal}
 use Rattle.irp_types.specs.declared.reply.Reply.{Reply}
-use Rattle.irp_types.specs.declared.reply.Reply.TheVariants.{Done, Device as DeviceIs, Irp, Status as StatusIs, Previous, Cancelled, Seen as SeenAs, Refused}
+use Rattle.irp_types.specs.declared.reply.Reply.TheVariants.{Done, Refused}
 use Rattle.irp_names.specs.Calls.{call_text, caller_of}
 use Rattle.irp_names.specs.Refusals.{refusal_meaning, refusal_name, refusal_text}
 use Rattle.irp_names.specs.Replies.{reply_text}
@@ -43,13 +43,8 @@ refused_text false call refusal = refusal_text call refusal
 -- what stands behind the call: nothing where it is done; each refusal; other replies unless an outcome is told
 abbrev pub answer_text : Bool → Entry → Reply → List ℕ
 answer_text is_left_out entry Done = []
-answer_text is_left_out entry (DeviceIs device) = unless_sent entry
-answer_text is_left_out entry (Irp irp) = unless_sent entry
-answer_text is_left_out entry (StatusIs status) = unless_sent entry
-answer_text is_left_out entry (Previous cancel) = unless_sent entry
-answer_text is_left_out entry (Cancelled was) = unless_sent entry
-answer_text is_left_out entry (SeenAs seen) = unless_sent entry
 answer_text is_left_out entry (Refused refusal) = codes " -> refused: " ++ refused_text is_left_out entry.call refusal
+answer_text is_left_out entry other = unless_sent entry
 
 -- the seat, where it is told
 abbrev pub seat_text : Bool → ℕ → List ℕ

@@ -1,2 +1,3 @@
+mod CallNames
 mod PlansApart
 mod ToldApart

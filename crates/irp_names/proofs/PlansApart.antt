@@ -4,7 +4,7 @@ use Rattle.std.specs.Prelude.{codes, if◌then◌else◌, replicate}
 use Rattle.std.specs.Fmt.{decimal, digits, format_spec, padded_integral, char_count}
 use Rattle.std.specs.Char.{digit_value}
 use Rattle.std.specs.List.{find}
-use Rattle.std.specs.Option.{option_map_or, option_or}
+use Rattle.std.specs.Option.{option_map_or}
 use Rattle.std.specs.Str.Parse.{AllDigits, digits_value}
 use Rattle.std.proofs.lemmas.Bool.{eqb-true, eq-eqb}
 use Rattle.std.proofs.lemmas.Fmt.{decimal_injective, digits_is_IsNumeral, decimal_is_IsNumeral}
@@ -17,11 +17,13 @@ use Rattle.irp_types.specs.declared.routine.Rule.TheVariants as rule
 use Rattle.irp_types.specs.declared.routine.RoutineId.{RoutineId}
 use Rattle.irp_types.specs.declared.routine.Setting.{Setting}
 use Rattle.irp_types.specs.declared.status.Status.{Status}
+use Rattle.irp_forms.specs.Found.{rule_found}
+use Rattle.irp_forms.specs.Names.{first_named, rule_name, rules as every_rule}
 use Rattle.irp_names.specs.Calls.{flags_words, setting_text}
 use Rattle.irp_names.specs.Closures.{CancelHas64Bits, PlanHas64Bits, PlansAreToldApart, SettingHas64Bits, cancel_set, forwarding, plan_text, routine_set}
-use Rattle.irp_names.specs.Rows.{Row, named}
-use Rattle.irp_names.specs.Small.{hex_text, routine_text, rule_word, wide_hex}
-use Rattle.irp_names.specs.Statuses.{error_rows, result_text, status_name, status_text, success_rows, warning_rows}
+use Rattle.irp_names.specs.Rows.{Row, named, numbered}
+use Rattle.irp_names.specs.Small.{hex_text, routine_text, wide_hex}
+use Rattle.irp_names.specs.Statuses.{result_text, status_name, status_rows, status_text}
 
 -- ---- a text up to a sign, and beyond it
 
@@ -131,21 +133,13 @@ wide_lacks number small =
 
 -- ---- statuses
 
--- the number of a name
-number_named : List Row → List ℕ → Option ℕ
-number_named [] given = None
-number_named (row ∷ rows) given = if bytes_eq given row.1 then Some row.0 else number_named rows given
-
-status_rows : List Row
-status_rows = success_rows ++ (warning_rows ++ error_rows)
-
 -- each name of a table has its number, and no comma
 Known : List Row → Type 0
 Known [] = Unit {0}
-Known (row ∷ rows) = ((number_named status_rows row.1 ≡ Some row.0) × (lacks 44 row.1 ≡ true)) × Known rows
+Known (row ∷ rows) = ((numbered status_rows row.1 ≡ Some row.0) × (lacks 44 row.1 ≡ true)) × Known rows
 
 Told : ℕ → List ℕ → Type 0
-Told number name = (number_named status_rows name ≡ Some number) × (lacks 44 name ≡ true)
+Told number name = (numbered status_rows name ≡ Some number) × (lacks 44 name ≡ true)
 
 named_told : (rows : List Row) (number : ℕ) (name : List ℕ) → Known rows → named rows number ≡ Some name → Told number name
 unfolding Known Told
@@ -156,40 +150,22 @@ named_told (row ∷ rows) number name known is = by (named_told rows number name
         → (if b then Some row.1 else named rows number) ≡ Some name → Told number name
     by further true same is =
         let named_so : row.1 ≡ name = cc (is) in
-        let numbered : row.0 ≡ number = sym (eqb-true number row.0 same) in
-        subst (λ (n : ℕ). Told n name) numbered (subst (λ (given : List ℕ). Told row.0 given) named_so known.0)
+        let its_number : row.0 ≡ number = sym (eqb-true number row.0 same) in
+        subst (λ (n : ℕ). Told n name) its_number (subst (λ (given : List ℕ). Told row.0 given) named_so known.0)
     by further false same is = further is
 
-either_told : (number : ℕ) (one other : Option (List ℕ)) → ((name : List ℕ) → one ≡ Some name → Told number name)
-    → ((name : List ℕ) → other ≡ Some name → Told number name) → (name : List ℕ) → option_or one other ≡ Some name → Told number name
-either_told number None other first second name is = second name is
-either_told number (Some found) other first second name is = first name is
-
-success_known : Known success_rows
-unfolding Known number_named status_rows lacks
-success_known = search rules
-
-warning_known : Known warning_rows
-unfolding Known number_named status_rows lacks
-warning_known = search rules
-
-error_known : Known error_rows
-unfolding Known number_named status_rows lacks
-error_known = search rules
+all_known : Known status_rows
+unfolding Known lacks
+all_known = search rules
 
 name_told : (number : ℕ) (name : List ℕ) → status_name number ≡ Some name → Told number name
-name_told number =
-    either_told number (named success_rows number) (option_or (named warning_rows number) (named error_rows number))
-    (λ name. named_told success_rows number name success_known)
-    (either_told number (named warning_rows number) (named error_rows number)
-    (λ name. named_told warning_rows number name warning_known) (λ name. named_told error_rows number name error_known))
+name_told number name is = named_told status_rows number name all_known is
 
 -- the words of a status that has this name, or none
 told_as : Option (List ℕ) → ℕ → List ℕ
 told_as name number = option_map_or (λ (given : List ℕ). given) name (codes "status " ++ wide_hex 8 true number)
 
-unnamed : (number : ℕ) → number_named status_rows (codes "status " ++ wide_hex 8 true number) ≡ None
-unfolding number_named status_rows
+unnamed : (number : ℕ) → numbered status_rows (codes "status " ++ wide_hex 8 true number) ≡ None
 unnamed number = refl
 
 number_same : (one other : ℕ) → one < 2 ^ 64 → other < 2 ^ 64 → (name name_too : Option (List ℕ)) → status_name one ≡ name
@@ -197,13 +173,13 @@ number_same : (one other : ℕ) → one < 2 ^ 64 → other < 2 ^ 64 → (name na
 unfolding told_as wide Told
 number_same one other small small_too (Some name) (Some further) is is_too same =
     let both : Some one ≡ Some other =
-    sym (name_told one name is).0 ∙ ap (number_named status_rows) same ∙ (name_told other further is_too).0 in
+    sym (name_told one name is).0 ∙ ap (numbered status_rows) same ∙ (name_told other further is_too).0 in
     cc (both)
 number_same one other small small_too (Some name) None is is_too same =
-    let both : Some one ≡ None = sym (name_told one name is).0 ∙ ap (number_named status_rows) same ∙ unnamed other in
+    let both : Some one ≡ None = sym (name_told one name is).0 ∙ ap (numbered status_rows) same ∙ unnamed other in
     absurd (cc (both))
 number_same one other small small_too None (Some name) is is_too same =
-    let both : None ≡ Some other = sym (unnamed one) ∙ ap (number_named status_rows) same ∙ (name_told other name is_too).0 in
+    let both : None ≡ Some other = sym (unnamed one) ∙ ap (numbered status_rows) same ∙ (name_told other name is_too).0 in
     absurd (cc (both))
 number_same one other small small_too None None is is_too same =
     let digits_same : wide (digits 16 true one) ≡ wide (digits 16 true other) = ap (drop 9) same in
@@ -238,21 +214,7 @@ finish_same status further information more small small_too same =
     let two = hex_same information more small.1 small_too.1 hex in
     λ i. plan.Finish (one i) (two i)
 
-rules_told : List Rule
-rules_told = rule.Watch ∷ rule.Change ∷ rule.Keeper ∷ rule.KeepOnError ∷ rule.Free ∷ []
-
-rule_named : List ℕ → Option Rule
-rule_named given = find (λ (one : Rule). bytes_eq given (rule_word one)) rules_told
-
-rule_found : (one : Rule) → rule_named (rule_word one) ≡ Some one
-unfolding rule_named rules_told
-rule_found rule.Watch = refl
-rule_found rule.Change = refl
-rule_found rule.Keeper = refl
-rule_found rule.KeepOnError = refl
-rule_found rule.Free = refl
-
-word_lacks : (one : Rule) → lacks 32 (rule_word one) ≡ true
+word_lacks : (one : Rule) → lacks 32 (rule_name one) ≡ true
 unfolding lacks
 word_lacks rule.Watch = refl
 word_lacks rule.Change = refl
@@ -264,7 +226,7 @@ routine_lacks : (id : RoutineId) → id.no < 2 ^ 64 → lacks 44 (routine_text i
 unfolding lacks
 routine_lacks id small = by id.rule
   where
-    by : (one : Rule) → lacks 44 (rule_word one ++ (codes " " ++ decimal id.no)) ≡ true
+    by : (one : Rule) → lacks 44 (rule_name one ++ (codes " " ++ decimal id.no)) ≡ true
     by rule.Watch = decimal_lacks id.no small
     by rule.Change = decimal_lacks id.no small
     by rule.Keeper = decimal_lacks id.no small
@@ -274,10 +236,10 @@ routine_lacks id small = by id.rule
 routine_same : (one other : RoutineId) → one.no < 2 ^ 64 → other.no < 2 ^ 64 → routine_text one ≡ routine_text other → one ≡ other
 unfolding Parts
 routine_same one other small small_too same =
-    let split = parts 32 (rule_word one.rule) (rule_word other.rule) (decimal one.no) (decimal other.no) (word_lacks one.rule)
+    let split = parts 32 (rule_name one.rule) (rule_name other.rule) (decimal one.no) (decimal other.no) (word_lacks one.rule)
     (word_lacks other.rule) same in
     let found : Some one.rule ≡ Some other.rule =
-    sym (rule_found one.rule) ∙ ap rule_named split.0 ∙ rule_found other.rule in
+    sym (rule_found one.rule) ∙ ap (first_named rule_name every_rule) split.0 ∙ rule_found other.rule in
     let rule_same : one.rule ≡ other.rule = cc (found) in
     let no_same = decimal_injective one.no other.no small small_too split.1 in
     λ i. record { rule = rule_same i; no = no_same i }

@@ -1,9 +1,8 @@
 -- What has the text of a refusal is that refusal.
-use Rattle.std.proofs.Common.{◌≡◌, ℕ, ◌==◌, Bool, true, false, List, [], ◌∷◌, ◌++◌, ap, sym, refl, ◌∙◌, arith, rules, Option, Some, None, bytes_eq}
+use Rattle.std.proofs.Common.{◌≡◌, ℕ, ◌==◌, Bool, true, false, List, [], ◌∷◌, ◌++◌, ap, sym, refl, ◌∙◌, arith, rules, Option, Some, None}
 use Rattle.std.specs.Prelude.{codes, if◌then◌else◌}
 use Rattle.std.specs.Fmt.{decimal}
-use Rattle.std.specs.List.{find}
-use Rattle.std.specs.Option.{option_map_or, option_or}
+use Rattle.std.specs.Option.{option_map_or}
 use Rattle.irp_types.specs.Calls.{Call}
 use Rattle.irp_types.specs.declared.call.Call.TheVariants as call
 use Rattle.irp_types.specs.declared.location.Owner.{Owner}
@@ -11,89 +10,20 @@ use Rattle.irp_types.specs.declared.location.Owner.TheVariants as owner
 use Rattle.irp_types.specs.declared.names.DeviceId.{DeviceId}
 use Rattle.irp_types.specs.declared.names.IrpRef.{IrpRef}
 use Rattle.irp_types.specs.declared.refusal.Refusal.{Refusal}
-use Rattle.irp_types.specs.declared.refusal.Refusal.TheVariants as refusal
 use Rattle.irp_types.specs.declared.reply.Reply.TheVariants as reply
 use Rattle.irp_types.specs.declared.status.Status.{Status}
 use Rattle.irp_names.specs.Rows.{Row, named}
-use Rattle.irp_names.specs.Refusals.{refusal_name}
+use Rattle.irp_forms.specs.Found.{refusal_found}
+use Rattle.irp_forms.specs.Names.{first_named, refusal_name, refusals}
 use Rattle.irp_names.specs.Replies.{RefusalsAreToldApart, answered_device, reply_text}
 use Rattle.irp_names.specs.Small.{owner_text, packet_text, wide_hex}
-use Rattle.irp_names.specs.Statuses.{error_rows, status_name, status_text, success_rows, warning_rows}
+use Rattle.irp_names.specs.Statuses.{status_name, status_rows, status_text}
 
 -- ---- no two refusals have one name
 
-refusals : List Refusal
-refusals =
-    refusal.NoIrp
-    ∷ refusal.Stale
-    ∷ refusal.NoDevice
-    ∷ refusal.DeviceGone
-    ∷ refusal.NotOwner
-    ∷ refusal.NoLocation
-    ∷ refusal.NotPrepared
-    ∷ refusal.AfterSkip
-    ∷ refusal.TooShort
-    ∷ refusal.WrongTarget
-    ∷ refusal.NoRoutine
-    ∷ refusal.BadStatus
-    ∷ refusal.CancelRoutineSet
-    ∷ refusal.AlreadyCancelled
-    ∷ refusal.InFlight
-    ∷ refusal.StillAttached
-    ∷ refusal.SameStack
-    ∷ refusal.TooDeep
-    ∷ refusal.Full
-    ∷ refusal.NothingAttached
-    ∷ refusal.NotDrained
-    ∷ refusal.BadSize
-    ∷ refusal.BadMajor
-    ∷ refusal.NoDriver
-    ∷ refusal.Ended
-    ∷ refusal.HistoryFull
-    ∷ refusal.NoLock
-    ∷ refusal.SlotHeld
-    ∷ refusal.NotSlotHeld
-    ∷ []
-
--- the first of these refusals that has the name
-first_named : List Refusal → List ℕ → Option Refusal
-first_named values given = find (λ value. bytes_eq given (refusal_name value)) values
-
-found : (one : Refusal) → first_named refusals (refusal_name one) ≡ Some one
-unfolding refusals first_named
-found refusal.NoIrp = refl
-found refusal.Stale = refl
-found refusal.NoDevice = refl
-found refusal.DeviceGone = refl
-found refusal.NotOwner = refl
-found refusal.NoLocation = refl
-found refusal.NotPrepared = refl
-found refusal.AfterSkip = refl
-found refusal.TooShort = refl
-found refusal.WrongTarget = refl
-found refusal.NoRoutine = refl
-found refusal.BadStatus = refl
-found refusal.CancelRoutineSet = refl
-found refusal.AlreadyCancelled = refl
-found refusal.InFlight = refl
-found refusal.StillAttached = refl
-found refusal.SameStack = refl
-found refusal.TooDeep = refl
-found refusal.Full = refl
-found refusal.NothingAttached = refl
-found refusal.NotDrained = refl
-found refusal.BadSize = refl
-found refusal.BadMajor = refl
-found refusal.NoDriver = refl
-found refusal.Ended = refl
-found refusal.HistoryFull = refl
-found refusal.NoLock = refl
-found refusal.SlotHeld = refl
-found refusal.NotSlotHeld = refl
-
 same_refusal : (one other : Refusal) → refusal_name one ≡ refusal_name other → one ≡ other
 same_refusal one other same =
-    let both : Some one ≡ Some other = sym (found one) ∙ ap (first_named refusals) same ∙ found other in
+    let both : Some one ≡ Some other = sym (refusal_found one) ∙ ap (first_named refusal_name refusals) same ∙ refusal_found other in
     cc (both)
 
 -- ---- how texts begin
@@ -117,29 +47,12 @@ name_begins at (row ∷ rows) number name begin is = by (name_begins at rows num
     by rest true is = let same : row.1 ≡ name = cc (is) in ap letter (sym same) ∙ begin.0
     by rest false is = rest is
 
-either_begins : (at : ℕ) (one other : Option (List ℕ)) → ((name : List ℕ) → one ≡ Some name → letter name ≡ at) → ((name : List ℕ) → other ≡ Some name → letter name ≡ at)
-    → (name : List ℕ) → option_or one other ≡ Some name → letter name ≡ at
-either_begins at None other first second name is = second name is
-either_begins at (Some found) other first second name is = first name is
-
-success_begin : Begin 83 success_rows
+all_begin : Begin 83 status_rows
 unfolding letter Begin
-success_begin = search rules
-
-warning_begin : Begin 83 warning_rows
-unfolding letter Begin
-warning_begin = search rules
-
-error_begin : Begin 83 error_rows
-unfolding letter Begin
-error_begin = search rules
+all_begin = search rules
 
 name_letter : (number : ℕ) (name : List ℕ) → status_name number ≡ Some name → letter name ≡ 83
-name_letter number =
-    either_begins 83 (named success_rows number) (option_or (named warning_rows number) (named error_rows number))
-    (λ name. name_begins 83 success_rows number name success_begin)
-    (either_begins 83 (named warning_rows number) (named error_rows number)
-    (λ name. name_begins 83 warning_rows number name warning_begin) (λ name. name_begins 83 error_rows number name error_begin))
+name_letter number name is = name_begins 83 status_rows number name all_begin is
 
 status_letter : (status : Status) → letter (status_text status) ≡ 114 → ⊥
 unfolding letter

@@ -6,3 +6,4 @@ pub mod Replies
 pub mod Rows
 pub mod Small
 pub mod Statuses
+pub mod Steps

@@ -1,6 +1,7 @@
 -- Refusals in words.
 use Rattle.std.specs.Prelude.{ℕ, List, [], ◌++◌, codes, Option, Some, None}
 use Rattle.std.specs.Option.{option_map_or}
+use Rattle.irp_forms.specs.Names as forms
 use Rattle.irp_types.specs.Calls.{Call}
 use Rattle.irp_types.specs.declared.call.Call.TheVariants as call
 use Rattle.irp_types.specs.declared.refusal.Refusal.{Refusal}
@@ -8,35 +9,7 @@ use Rattle.irp_types.specs.declared.refusal.Refusal.TheVariants as refusal
 
 -- the name of a refusal
 abbrev pub refusal_name : Refusal → List ℕ
-refusal_name refusal.NoIrp = codes "NoIrp"
-refusal_name refusal.Stale = codes "Stale"
-refusal_name refusal.NoDevice = codes "NoDevice"
-refusal_name refusal.DeviceGone = codes "DeviceGone"
-refusal_name refusal.NotOwner = codes "NotOwner"
-refusal_name refusal.NoLocation = codes "NoLocation"
-refusal_name refusal.NotPrepared = codes "NotPrepared"
-refusal_name refusal.AfterSkip = codes "AfterSkip"
-refusal_name refusal.TooShort = codes "TooShort"
-refusal_name refusal.WrongTarget = codes "WrongTarget"
-refusal_name refusal.NoRoutine = codes "NoRoutine"
-refusal_name refusal.BadStatus = codes "BadStatus"
-refusal_name refusal.CancelRoutineSet = codes "CancelRoutineSet"
-refusal_name refusal.AlreadyCancelled = codes "AlreadyCancelled"
-refusal_name refusal.InFlight = codes "InFlight"
-refusal_name refusal.StillAttached = codes "StillAttached"
-refusal_name refusal.SameStack = codes "SameStack"
-refusal_name refusal.TooDeep = codes "TooDeep"
-refusal_name refusal.Full = codes "Full"
-refusal_name refusal.NothingAttached = codes "NothingAttached"
-refusal_name refusal.NotDrained = codes "NotDrained"
-refusal_name refusal.BadSize = codes "BadSize"
-refusal_name refusal.BadMajor = codes "BadMajor"
-refusal_name refusal.NoDriver = codes "NoDriver"
-refusal_name refusal.Ended = codes "Ended"
-refusal_name refusal.HistoryFull = codes "HistoryFull"
-refusal_name refusal.NoLock = codes "NoLock"
-refusal_name refusal.SlotHeld = codes "SlotHeld"
-refusal_name refusal.NotSlotHeld = codes "NotSlotHeld"
+refusal_name one = forms.refusal_name one
 
 -- when it comes
 abbrev pub refusal_meaning : Refusal → List ℕ

@@ -1,6 +1,7 @@
 -- Devices, packets, parties, routines and numbers in words.
 use Rattle.std.specs.Prelude.{ℕ, ◌==◌, ◌-◌, ◌^◌, Bool, true, false, List, [], ◌++◌, codes, Option, Some, None, if◌then◌else◌}
 use Rattle.std.specs.Fmt.{decimal, digits, format_spec, padded_integral}
+use Rattle.irp_forms.specs.Names.{rule_name}
 use Rattle.irp_types.specs.declared.names.CancelId.{CancelId}
 use Rattle.irp_types.specs.declared.names.DeviceId.{DeviceId}
 use Rattle.irp_types.specs.declared.names.IrpRef.{IrpRef}
@@ -8,8 +9,6 @@ use Rattle.irp_types.specs.declared.call.Party.{Party}
 use Rattle.irp_types.specs.declared.call.Party.TheVariants as party
 use Rattle.irp_types.specs.declared.location.Owner.{Owner}
 use Rattle.irp_types.specs.declared.location.Owner.TheVariants as owner
-use Rattle.irp_types.specs.declared.routine.Rule.{Rule}
-use Rattle.irp_types.specs.declared.routine.Rule.TheVariants as rule
 use Rattle.irp_types.specs.declared.routine.RoutineId.{RoutineId}
 
 -- hexadecimal: small letters; capital ones, with zeros up to so many places
@@ -48,15 +47,8 @@ owner_text (owner.Device device) = codes "D" ++ (decimal device.0 ++ codes " own
 owner_text owner.Ended = codes "completed"
 
 -- a completion routine: its rule, and its number within it
-abbrev pub rule_word : Rule → List ℕ
-rule_word rule.Watch = codes "watch"
-rule_word rule.Change = codes "change"
-rule_word rule.Keeper = codes "keeper"
-rule_word rule.KeepOnError = codes "keep_on_error"
-rule_word rule.Free = codes "free"
-
 abbrev pub routine_text : RoutineId → List ℕ
-routine_text id = rule_word id.rule ++ (codes " " ++ decimal id.no)
+routine_text id = rule_name id.rule ++ (codes " " ++ decimal id.no)
 
 -- a cancel routine or none
 abbrev pub cancel_text : Option CancelId → List ℕ

@@ -1,30 +1,22 @@
 -- Statuses in words.
 use Rattle.std.specs.Prelude.{ℕ, List, [], ◌∷◌, ◌++◌, codes, true, Option}
-use Rattle.std.specs.Option.{option_or, option_map_or}
+use Rattle.std.specs.Option.{option_map_or}
 use Rattle.irp_types.specs.declared.status.Status.{Status}
-use Rattle.irp_names.specs.Rows.{Row, named}
+use Rattle.irp_names.specs.Rows.{Row, named, numbered}
 use Rattle.irp_names.specs.Small.{hex_text, wide_hex}
 
--- successes, warnings and errors that drivers give often
-abbrev pub success_rows : List Row
-success_rows =
+-- the statuses that drivers give often
+abbrev pub status_rows : List Row
+status_rows =
     (0x00000000, codes "STATUS_SUCCESS")
     ∷ (0x00000102, codes "STATUS_TIMEOUT")
     ∷ (0x00000103, codes "STATUS_PENDING")
     ∷ (0x00000104, codes "STATUS_REPARSE")
-    ∷ []
-
-abbrev pub warning_rows : List Row
-warning_rows =
-    (0x80000005, codes "STATUS_BUFFER_OVERFLOW")
+    ∷ (0x80000005, codes "STATUS_BUFFER_OVERFLOW")
     ∷ (0x80000006, codes "STATUS_NO_MORE_FILES")
     ∷ (0x80000011, codes "STATUS_DEVICE_BUSY")
     ∷ (0x8000001A, codes "STATUS_NO_MORE_ENTRIES")
-    ∷ []
-
-abbrev pub error_rows : List Row
-error_rows =
-    (0xC0000001, codes "STATUS_UNSUCCESSFUL")
+    ∷ (0xC0000001, codes "STATUS_UNSUCCESSFUL")
     ∷ (0xC0000002, codes "STATUS_NOT_IMPLEMENTED")
     ∷ (0xC0000004, codes "STATUS_INFO_LENGTH_MISMATCH")
     ∷ (0xC0000005, codes "STATUS_ACCESS_VIOLATION")
@@ -55,8 +47,11 @@ error_rows =
 
 -- the name of a status, where it is one of these
 abbrev pub status_name : ℕ → Option (List ℕ)
-status_name number =
-    option_or (named success_rows number) (option_or (named warning_rows number) (named error_rows number))
+status_name number = named status_rows number
+
+-- the number of the status that has this name, if one has it
+abbrev pub status_named : List ℕ → Option ℕ
+status_named name = numbered status_rows name
 
 -- a status by its name, or by its number
 abbrev pub status_text : Status → List ℕ

@@ -8,57 +8,22 @@ use crate::closures::SettingWords;
 use crate::majors::MajorWords;
 use crate::small::{Hex, PacketWords};
 use crate::statuses::{ResultWords, StatusWords};
+use crate::step_names::act_of;
 use irp_types::{Call, CancelId, Party};
 use std::fmt;
 
 /// The routine of Windows that a call stands for (docs/RULES.md, The eighteen calls). Look stands for none: it reads
 /// the packet. SetNext stands for what a driver does with the location that IoGetNextIrpStackLocation gives.
+#[tactic(auto, using(crate::proofs::CallNames::call_named))]
 pub fn call_name(call: Call) -> &'static str
     ensures { result.now ≡ call_name call }
 {
-    match call {
-        Call::CreateDevice { .. } => "IoCreateDevice",
-        Call::Attach { .. } => "IoAttachDeviceToDeviceStack",
-        Call::Detach { .. } => "IoDetachDevice",
-        Call::Delete { .. } => "IoDeleteDevice",
-        Call::Allocate { .. } => "IoAllocateIrp",
-        Call::Free { .. } => "IoFreeIrp",
-        Call::Reuse { .. } => "IoReuseIrp",
-        Call::SetNext { .. } => "IoGetNextIrpStackLocation",
-        Call::CopyToNext { .. } => "IoCopyCurrentIrpStackLocationToNext",
-        Call::Skip { .. } => "IoSkipCurrentIrpStackLocation",
-        Call::SetRoutine { .. } => "IoSetCompletionRoutine",
-        Call::MarkPending { .. } => "IoMarkIrpPending",
-        Call::CallDriver { .. } => "IoCallDriver",
-        Call::Complete { .. } | Call::FinishTaken { .. } => "IoCompleteRequest",
-        Call::SetCancelRoutine { .. } => "IoSetCancelRoutine",
-        Call::Cancel { .. } => "IoCancelIrp",
-        Call::Look { .. } => "look at",
-    }
+    act_of(call).windows_name()
 }
 
 /// The name of a call in docs/RULES.md (this project's own).
 pub fn rules_name(call: Call) -> &'static str {
-    match call {
-        Call::CreateDevice { .. } => "CreateDevice",
-        Call::Attach { .. } => "Attach",
-        Call::Detach { .. } => "Detach",
-        Call::Delete { .. } => "Delete",
-        Call::Allocate { .. } => "Allocate",
-        Call::Free { .. } => "Free",
-        Call::Reuse { .. } => "Reuse",
-        Call::SetNext { .. } => "SetNext",
-        Call::CopyToNext { .. } => "CopyToNext",
-        Call::Skip { .. } => "Skip",
-        Call::SetRoutine { .. } => "SetRoutine",
-        Call::MarkPending { .. } => "MarkPending",
-        Call::CallDriver { .. } => "CallDriver",
-        Call::Complete { .. } => "Complete",
-        Call::FinishTaken { .. } => "FinishTaken",
-        Call::SetCancelRoutine { .. } => "SetCancelRoutine",
-        Call::Cancel { .. } => "Cancel",
-        Call::Look { .. } => "Look",
-    }
+    act_of(call).rules_name()
 }
 
 /// The party that a call names. None where it names none (docs/RULES.md, Who may do what).

@@ -59,6 +59,21 @@ impl fmt::Display for SettingWords {
     }
 }
 
+/// The names of plans, as scripts and transcripts have them (this project's own).
+static PLAN_NAMES: [&'static str; 6] = [
+    "finish",
+    "hold",
+    "hold_slot",
+    "skip",
+    "forward",
+    "forward_pend",
+];
+
+/// The names of plans, as scripts and transcripts have them.
+pub fn plan_names() -> &'static [&'static str] {
+    &PLAN_NAMES
+}
+
 /// What a dispatch did, as a driver writes it.
 #[derive(Clone, Copy)]
 pub struct PlanWords(pub Plan);

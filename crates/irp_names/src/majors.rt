@@ -7,6 +7,7 @@ ghost use Rattle.irp_names.specs.Rows.{named};
 ghost use Rattle.irp_names.specs.Small.{wide_hex};
 ghost use Rattle.irp_types.specs.Limits.{last_major};
 
+use irp_types::limits::LAST_MAJOR;
 use std::fmt;
 
 /// The name of a major function code, 0x00 to 0x1b. None for any other (WDK: "IRP Major Function Codes").
@@ -45,6 +46,16 @@ pub fn major_name(major: u8) -> Option<&'static str>
         0x1b => "IRP_MJ_PNP",
         _ => return None,
     })
+}
+
+/// The major function code that has this name. None where none has it.
+pub fn major_named(name: &str) -> Option<u8> {
+    for major in 0..=LAST_MAJOR {
+        if major_name(major) == Some(name) {
+            return Some(major);
+        }
+    }
+    None
 }
 
 /// A number, as `0x1c`.

@@ -4,6 +4,7 @@ ghost use Rattle.std.specs.Prelude.{◌≡◌, Some};
 ghost use Rattle.std.specs.Option.{option_map};
 ghost use Rattle.irp_names.specs.Refusals.{completion_name, delete_name, refusal_meaning, refusal_name, refusal_text, reuse_name, sending_name, windows_name};
 
+use irp_forms::HasName;
 use irp_types::{Call, Refusal};
 use std::fmt;
 
@@ -11,37 +12,7 @@ use std::fmt;
 pub fn refusal_name(refusal: Refusal) -> &'static str
     ensures { result.now ≡ refusal_name refusal }
 {
-    match refusal {
-        Refusal::NoIrp => "NoIrp",
-        Refusal::Stale => "Stale",
-        Refusal::NoDevice => "NoDevice",
-        Refusal::DeviceGone => "DeviceGone",
-        Refusal::NotOwner => "NotOwner",
-        Refusal::NoLocation => "NoLocation",
-        Refusal::NotPrepared => "NotPrepared",
-        Refusal::AfterSkip => "AfterSkip",
-        Refusal::TooShort => "TooShort",
-        Refusal::WrongTarget => "WrongTarget",
-        Refusal::NoRoutine => "NoRoutine",
-        Refusal::BadStatus => "BadStatus",
-        Refusal::CancelRoutineSet => "CancelRoutineSet",
-        Refusal::AlreadyCancelled => "AlreadyCancelled",
-        Refusal::InFlight => "InFlight",
-        Refusal::StillAttached => "StillAttached",
-        Refusal::SameStack => "SameStack",
-        Refusal::TooDeep => "TooDeep",
-        Refusal::Full => "Full",
-        Refusal::NothingAttached => "NothingAttached",
-        Refusal::NotDrained => "NotDrained",
-        Refusal::BadSize => "BadSize",
-        Refusal::BadMajor => "BadMajor",
-        Refusal::NoDriver => "NoDriver",
-        Refusal::Ended => "Ended",
-        Refusal::HistoryFull => "HistoryFull",
-        Refusal::NoLock => "NoLock",
-        Refusal::SlotHeld => "SlotHeld",
-        Refusal::NotSlotHeld => "NotSlotHeld",
-    }
+    refusal.name()
 }
 
 /// When a refusal comes, in a few words (docs/RULES.md, Refusals).

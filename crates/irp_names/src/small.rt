@@ -1,9 +1,11 @@
 //! Devices, packets, parties and routines.
 
-ghost use Rattle.std.specs.Prelude.{◌≡◌, Some};
-ghost use Rattle.irp_names.specs.Small.{device_text, hex_text, owner_text, packet_text, party_text, routine_text, rule_word, told_if};
+ghost use Rattle.std.specs.Prelude.{◌≡◌, Some, map};
+ghost use Rattle.irp_forms.specs.Names.{rule_name, rules};
+ghost use Rattle.irp_names.specs.Small.{device_text, hex_text, owner_text, packet_text, party_text, routine_text, told_if};
 
-use irp_types::{DeviceId, IrpRef, Owner, Party, RoutineId, Rule};
+use irp_forms::HasName;
+use irp_types::{DeviceId, IrpRef, Owner, Party, RoutineId};
 use std::fmt;
 
 /// The slot that a label stands for where it isn't bound (this project's own format, docs/FORMATS.md).
@@ -90,17 +92,15 @@ impl fmt::Display for OwnerWords {
     }
 }
 
-/// The word of a rule, as scripts and transcripts have it.
-fn rule_word(rule: Rule) -> &'static str
-    ensures { result.now ≡ rule_word rule }
+/// The names of the rules of completion routines, as scripts and transcripts have them (this project's own).
+static RULE_NAMES: [&'static str; 5] = ["watch", "change", "keeper", "keep_on_error", "free"];
+
+/// The names of the rules of completion routines, as scripts and transcripts have them.
+#[tactic(auto, unfolding(irp_forms::specs::Names::rules))]
+pub fn rule_names() -> &'static [&'static str]
+    ensures { map (λ name. name.now) result.now ≡ map rule_name rules }
 {
-    match rule {
-        Rule::Watch => "watch",
-        Rule::Change => "change",
-        Rule::Keeper => "keeper",
-        Rule::KeepOnError => "keep_on_error",
-        Rule::Free => "free",
-    }
+    &RULE_NAMES
 }
 
 /// A completion routine, as `keeper 0`: its rule and its number within it.
@@ -111,6 +111,6 @@ impl fmt::Display for RoutineWords {
     ghost output = { λ words. Some (routine_text words.0) };
 
     fn fmt<W: fmt::Write>(&self, f: &mut fmt::Formatter<W>) -> fmt::Result {
-        write!(f, "{} {}", rule_word(self.0.rule), self.0.no)
+        write!(f, "{} {}", self.0.rule.name(), self.0.no)
     }
 }

@@ -1,4 +1,6 @@
-//! The names that a script has, and what stands under its keys. Source: this project's own format (docs/FORMATS.md).
+//! The keys that the steps of a script have, and what stands under them. Source: this project's own format (docs/FORMATS.md).
+
+use irp_names::Act;
 
 /// What stands under a key, or at a place of a list.
 #[derive(Clone, Copy, PartialEq, Eq)]
@@ -46,10 +48,10 @@ macro_rules! fields {
     };
 }
 
-/// Acts, each by its name, the name in Windows, its keys and where it may stand.
-macro_rules! acts {
-    ($($name:literal $shown:literal $windows:literal [$($key:literal)*] $place:ident;)*) => {
-        &[$(Act { name: $name, shown: $shown, windows: $windows, keys: &[$($key),*], place: Place::$place }),*]
+/// Steps, each with its keys and where it may stand.
+macro_rules! steps {
+    ($($act:ident [$($key:literal)*] $place:ident;)*) => {
+        &[$(ActKeys { act: Act::$act, keys: &[$($key),*], place: Place::$place }),*]
     };
 }
 
@@ -64,46 +66,42 @@ pub enum Place {
     FormTwo,
 }
 
-/// What a step does, and its keys.
+/// A step, its keys, and where it may stand.
 #[derive(Clone, Copy)]
-pub struct Act {
-    pub name: &'static str,
-    /// The same in quotation marks.
-    pub shown: &'static str,
-    /// The routine of Windows that it stands for; else its own name.
-    pub windows: &'static str,
+pub struct ActKeys {
+    pub act: Act,
     pub keys: &'static [&'static str],
     pub place: Place,
 }
 
 /// What a step may do.
-pub static ACTS: &[Act] = acts! {
-    "create_device" "\"create_device\"" "IoCreateDevice" ["seat" "do" "driver" "lock"] Anywhere;
-    "attach" "\"attach\"" "IoAttachDeviceToDeviceStack" ["seat" "do" "device" "to"] Anywhere;
-    "detach" "\"detach\"" "IoDetachDevice" ["seat" "do" "lower"] Anywhere;
-    "delete" "\"delete\"" "IoDeleteDevice" ["seat" "do" "device"] Anywhere;
-    "allocate" "\"allocate\"" "IoAllocateIrp" ["seat" "do" "size" "as"] Anywhere;
-    "free" "\"free\"" "IoFreeIrp" ["seat" "do" "irp"] Anywhere;
-    "reuse" "\"reuse\"" "IoReuseIrp" ["seat" "do" "irp" "status"] Anywhere;
-    "set_next" "\"set_next\"" "IoGetNextIrpStackLocation" ["seat" "do" "by" "irp" "major" "word"] Anywhere;
-    "copy_to_next" "\"copy_to_next\"" "IoCopyCurrentIrpStackLocationToNext" ["seat" "do" "by" "irp"] Anywhere;
-    "skip" "\"skip\"" "IoSkipCurrentIrpStackLocation" ["seat" "do" "by" "irp"] Anywhere;
-    "set_routine" "\"set_routine\"" "IoSetCompletionRoutine" ["seat" "do" "by" "irp" "set"] Anywhere;
-    "mark_pending" "\"mark_pending\"" "IoMarkIrpPending" ["seat" "do" "by" "irp"] Anywhere;
-    "call_driver" "\"call_driver\"" "IoCallDriver" ["seat" "do" "by" "irp" "target"] Anywhere;
-    "complete" "\"complete\"" "IoCompleteRequest" ["seat" "do" "by" "irp" "status" "information"] Anywhere;
-    "set_cancel_routine" "\"set_cancel_routine\"" "IoSetCancelRoutine" ["seat" "do" "by" "irp" "cancel"] Anywhere;
-    "cancel" "\"cancel\"" "IoCancelIrp" ["seat" "do" "irp"] Anywhere;
-    "look" "\"look\"" "look" ["seat" "do" "irp"] Anywhere;
-    "acquire" "\"acquire\"" "IoAcquireRemoveLock" ["seat" "do" "lock" "tag"] Steps;
-    "release" "\"release\"" "IoReleaseRemoveLock" ["seat" "do" "lock" "tag"] Steps;
-    "begin_remove" "\"begin_remove\"" "IoReleaseRemoveLockAndWait" ["seat" "do" "lock" "tag"] Steps;
-    "drained" "\"drained\"" "drained" ["seat" "do" "lock"] Steps;
-    "hand" "\"hand\"" "hand" ["seat" "do" "lock" "tag" "to"] FormTwo;
-    "publish" "\"publish\"" "publish" ["seat" "do" "slot" "irp"] FormTwo;
-    "withdraw" "\"withdraw\"" "withdraw" ["seat" "do" "slot"] FormTwo;
-    "request" "\"request\"" "request" ["seat" "do" "slot"] FormTwo;
-    "finish_taken" "\"finish_taken\"" "finish_taken" ["seat" "do" "irp" "slot" "status" "information"] FormTwo;
+pub static STEPS: &[ActKeys] = steps! {
+    CreateDevice ["seat" "do" "driver" "lock"] Anywhere;
+    Attach ["seat" "do" "device" "to"] Anywhere;
+    Detach ["seat" "do" "lower"] Anywhere;
+    Delete ["seat" "do" "device"] Anywhere;
+    Allocate ["seat" "do" "size" "as"] Anywhere;
+    Free ["seat" "do" "irp"] Anywhere;
+    Reuse ["seat" "do" "irp" "status"] Anywhere;
+    SetNext ["seat" "do" "by" "irp" "major" "word"] Anywhere;
+    CopyToNext ["seat" "do" "by" "irp"] Anywhere;
+    Skip ["seat" "do" "by" "irp"] Anywhere;
+    SetRoutine ["seat" "do" "by" "irp" "set"] Anywhere;
+    MarkPending ["seat" "do" "by" "irp"] Anywhere;
+    CallDriver ["seat" "do" "by" "irp" "target"] Anywhere;
+    Complete ["seat" "do" "by" "irp" "status" "information"] Anywhere;
+    SetCancelRoutine ["seat" "do" "by" "irp" "cancel"] Anywhere;
+    Cancel ["seat" "do" "irp"] Anywhere;
+    Look ["seat" "do" "irp"] Anywhere;
+    Acquire ["seat" "do" "lock" "tag"] Steps;
+    Release ["seat" "do" "lock" "tag"] Steps;
+    BeginRemove ["seat" "do" "lock" "tag"] Steps;
+    Drained ["seat" "do" "lock"] Steps;
+    Hand ["seat" "do" "lock" "tag" "to"] FormTwo;
+    Publish ["seat" "do" "slot" "irp"] FormTwo;
+    Withdraw ["seat" "do" "slot"] FormTwo;
+    Request ["seat" "do" "slot"] FormTwo;
+    FinishTaken ["seat" "do" "irp" "slot" "status" "information"] FormTwo;
 };
 
 /// The keys of steps.
@@ -140,11 +138,11 @@ pub fn field_of(key: &str) -> Option<Field> {
     None
 }
 
-/// What a step of this name does.
-pub fn act_of(name: &[u8]) -> Option<Act> {
-    for act in ACTS {
-        if act.name.as_bytes() == name {
-            return Some(*act);
+/// The step of this name, with its keys.
+pub fn step_named(name: &[u8]) -> Option<ActKeys> {
+    for step in STEPS {
+        if step.act.word().as_bytes() == name {
+            return Some(*step);
         }
     }
     None

@@ -8,22 +8,9 @@ use crate::small::{check_nth, is_one_of, number_at, there_are};
 use crate::tokens::Kind;
 use crate::words::{Finding, Piece, Remedy};
 use Piece::{Number, Say, Show};
-use irp_names::{major_name, status_name};
+use irp_names::{major_name, plan_names, rule_names, status_name};
 use irp_script_reader::MemberFault;
 use irp_types::Status;
-
-/// The rules of completion routines.
-static RULES: &[&str] = &["watch", "change", "keeper", "keep_on_error", "free"];
-
-/// The plans of dispatches.
-static PLANS: &[&str] = &[
-    "finish",
-    "hold",
-    "hold_slot",
-    "skip",
-    "forward",
-    "forward_pend",
-];
 
 const STATUS: Field = Field {
     name: "status",
@@ -82,17 +69,23 @@ pub struct Choice {
     pub words: &'static str,
 }
 
-const RULE: Choice = Choice {
-    shown: "the rule",
-    names: RULES,
-    words: "a rule is \"watch\", \"change\", \"keeper\", \"keep_on_error\" or \"free\"",
-};
+/// The rules of completion routines.
+fn rules() -> Choice {
+    Choice {
+        shown: "the rule",
+        names: rule_names(),
+        words: "a rule is \"watch\", \"change\", \"keeper\", \"keep_on_error\" or \"free\"",
+    }
+}
 
-const PLAN: Choice = Choice {
-    shown: "the plan",
-    names: PLANS,
-    words: "a plan is \"finish\", \"hold\", \"skip\", \"forward\" or \"forward_pend\", in forms 2 and 3 \"hold_slot\"",
-};
+/// The plans of dispatches.
+fn plans() -> Choice {
+    Choice {
+        shown: "the plan",
+        names: plan_names(),
+        words: "a plan is \"finish\", \"hold\", \"skip\", \"forward\" or \"forward_pend\", in forms 2 and 3 \"hold_slot\"",
+    }
+}
 
 const ANSWER: Choice = Choice {
     shown: "the answer",
@@ -259,7 +252,7 @@ pub fn check_completion(found: &mut Finding, node: Node) -> bool {
         node,
         3,
         "a completion routine is [rule,on_ok,on_err]",
-    ) || !check_first(found, node, RULE)
+    ) || !check_first(found, node, rules())
     {
         return false;
     }
@@ -338,7 +331,7 @@ fn check_flags(found: &mut Finding, node: Node) -> bool {
 /// Whether the form of a setting is right.
 pub fn check_setting(found: &mut Finding, node: Node) -> bool {
     let is_right = check_count(found, node, 4, "a setting is [rule,number,context,flags]")
-        && check_first(found, node, RULE)
+        && check_first(found, node, rules())
         && check_nth(found, node, 1, ROUTINE)
         && check_nth(found, node, 2, CONTEXT);
     match node.nth(3) {
@@ -349,7 +342,7 @@ pub fn check_setting(found: &mut Finding, node: Node) -> bool {
 
 /// How a completion routine is told of, by its rule.
 fn routine_words(rule: &[u8]) -> &'static str {
-    for name in RULES {
+    for name in rule_names() {
         if name.as_bytes() == rule {
             return *name;
         }
@@ -416,7 +409,7 @@ fn check_finish(found: &mut Finding, node: Node) -> bool {
 
 /// Whether a plan is right.
 pub fn check_plan(found: &mut Finding, around: Around, node: Node) -> bool {
-    if !check_first(found, node, PLAN) {
+    if !check_first(found, node, plans()) {
         return false;
     }
     let word = node.first_word().unwrap_or(&[]);

@@ -6,48 +6,9 @@ use crate::nodes::{Node, number_of};
 use crate::tokens::{Kind, cut};
 use crate::words::{Finding, Piece, Remedy};
 use Piece::{Number, Say, Show};
-use irp_names::{major_name, status_name};
+use irp_names::{major_name, status_name, status_names};
 use irp_types::Status;
 use irp_types::limits::LAST_MAJOR;
-
-/// The numbers of the statuses that have a name here.
-static STATUSES: &[u32] = &[
-    0x0000_0000,
-    0x0000_0102,
-    0x0000_0103,
-    0x0000_0104,
-    0x8000_0005,
-    0x8000_0006,
-    0x8000_0011,
-    0x8000_001A,
-    0xC000_0001,
-    0xC000_0002,
-    0xC000_0004,
-    0xC000_0005,
-    0xC000_0008,
-    0xC000_000D,
-    0xC000_000E,
-    0xC000_000F,
-    0xC000_0010,
-    0xC000_0011,
-    0xC000_0016,
-    0xC000_0017,
-    0xC000_0022,
-    0xC000_0023,
-    0xC000_0034,
-    0xC000_0035,
-    0xC000_0043,
-    0xC000_0056,
-    0xC000_007F,
-    0xC000_009A,
-    0xC000_009D,
-    0xC000_00A3,
-    0xC000_00B5,
-    0xC000_00BB,
-    0xC000_0120,
-    0xC000_0184,
-    0xC000_0185,
-];
 
 /// A number, its name, and how many edits lead to the name.
 type Meant = (u64, &'static str, u32);
@@ -72,13 +33,8 @@ fn nearer(
 /// The status that a name means.
 pub fn status_meant(word: &[u8]) -> Option<(u64, &'static str)> {
     let mut meant = None;
-    for number in STATUSES {
-        meant = nearer(
-            meant,
-            word,
-            u64::from(*number),
-            status_name(Status(*number)),
-        );
+    for (number, name) in status_names() {
+        meant = nearer(meant, word, u64::from(*number), Some(*name));
     }
     let (number, name, _) = meant?;
     Some((number, name))

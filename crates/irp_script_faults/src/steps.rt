@@ -1,28 +1,30 @@
 //! What is wrong with a step. Source: this project's own format (docs/FORMATS.md).
 
 use crate::conditions::check_condition;
-use crate::keys::{ACTS, Act, Place, act_of, field_of};
+use crate::keys::{ActKeys, Place, STEPS, field_of, step_named};
 use crate::lists::{Around, check_setting};
 use crate::near::edits;
 use crate::nodes::Node;
 use crate::small::{check_field, there_are};
 use crate::tokens::Kind;
 use crate::words::{Finding, Piece, Remedy};
-use Piece::{Keys, Number, Say, Show};
+use Piece::{Keys, Number, Quoted, Say, Show};
+use irp_names::Act;
 
 /// The call that is meant by a name, by its own or by that of Windows.
 fn meant_act(word: &[u8]) -> Remedy {
     let mut least = 3;
     let mut meant = Remedy::Unknown;
-    for act in ACTS {
-        let far = match edits(word, act.name) {
+    for step in STEPS {
+        let far = match edits(word, step.act.word()) {
             Some(count) => Some(count),
-            None => edits(word, act.windows),
+            None if step.act == Act::Look => None,
+            None => edits(word, step.act.windows_name()),
         };
         if let Some(count) = far {
             if count < least {
                 least = count;
-                meant = Remedy::Word(act.name);
+                meant = Remedy::Word(step.act.word());
             }
         }
     }
@@ -30,13 +32,13 @@ fn meant_act(word: &[u8]) -> Remedy {
 }
 
 /// What a step does; none where its name is wrong.
-fn act_in(found: &mut Finding, node: Node) -> Option<Act> {
+fn step_in(found: &mut Finding, node: Node) -> Option<ActKeys> {
     let Some(name) = node.get("do") else {
         missing(
             found,
             node,
             "do",
-            "a step",
+            Say("a step"),
             &["seat", "do and those of what it does"],
         );
         return None;
@@ -46,12 +48,12 @@ fn act_in(found: &mut Finding, node: Node) -> Option<Act> {
         found.not_taken("\"do\"", name, words);
         return None;
     };
-    let act = act_of(word);
-    if act.is_none() {
+    let step = step_named(word);
+    if step.is_none() {
         found.not_taken("\"do\"", name, "there is no such step");
         found.remedy(meant_act(word));
     }
-    act
+    step
 }
 
 /// A key is missing in an object, which is this and has these keys. It is false.
@@ -59,10 +61,10 @@ fn missing(
     found: &mut Finding,
     node: Node,
     key: &'static str,
-    what: &'static str,
+    what: Piece,
     keys: &'static [&'static str],
 ) -> bool {
-    let (key, what) = (Say(key), Say(what));
+    let key = Say(key);
     found.wrong(
         node,
         &[
@@ -81,7 +83,7 @@ fn unknown(
     found: &mut Finding,
     node: Node,
     key: Node,
-    what: &'static str,
+    what: Piece,
     keys: &'static [&'static str],
 ) -> bool {
     found.wrong(
@@ -89,7 +91,7 @@ fn unknown(
         &[
             Show(key.span()),
             Say(" is no key of "),
-            Say(what),
+            what,
             Say(", which has the keys "),
             Keys(keys),
         ],
@@ -148,7 +150,7 @@ fn other_key<'t>(
 pub fn check_keys(
     found: &mut Finding,
     node: Node,
-    what: &'static str,
+    what: Piece,
     keys: &'static [&'static str],
 ) -> bool {
     check_keys_beside(found, node, what, keys, &[])
@@ -158,7 +160,7 @@ pub fn check_keys(
 fn check_keys_beside(
     found: &mut Finding,
     node: Node,
-    what: &'static str,
+    what: Piece,
     keys: &'static [&'static str],
     beside: &[&'static str],
 ) -> bool {
@@ -189,13 +191,19 @@ fn check_values(found: &mut Finding, node: Node, keys: &[&'static str]) -> bool 
 }
 
 /// Whether a step may stand where it stands.
-fn check_place(found: &mut Finding, around: Around, in_setup: bool, node: Node, act: Act) -> bool {
+fn check_place(
+    found: &mut Finding,
+    around: Around,
+    in_setup: bool,
+    node: Node,
+    place: Place,
+) -> bool {
     let name = node.get("do").unwrap_or(node);
-    if act.place == Place::FormTwo && around.form == 1 {
+    if place == Place::FormTwo && around.form == 1 {
         found.not_taken("\"do\"", name, "form 1 doesn't have this step");
         return found.remedy(Remedy::Do("Write \"form\":2 and the number of \"slots\""));
     }
-    if act.place != Place::Anywhere && in_setup {
+    if place != Place::Anywhere && in_setup {
         let words = "it is on a remove lock or a cancel slot, which \"setup\" hasn't";
         found.not_taken("\"do\"", name, words);
         return found.remedy(Remedy::Do("Put it into \"steps\""));
@@ -258,9 +266,9 @@ fn check_slot(found: &mut Finding, around: Around, node: Node) -> bool {
 
 /// Whether whom or what a step names besides its packet is there.
 fn check_named(found: &mut Finding, around: Around, node: Node, act: Act) -> bool {
-    match act.name {
-        "hand" => check_hand(found, around, node),
-        "publish" | "withdraw" => check_slot(found, around, node),
+    match act {
+        Act::Hand => check_hand(found, around, node),
+        Act::Publish | Act::Withdraw => check_slot(found, around, node),
         _ => true,
     }
 }
@@ -271,11 +279,11 @@ pub fn check_step(found: &mut Finding, around: Around, in_setup: bool, node: Nod
         let words = "a step is an object with \"seat\", \"do\" and the keys of what it does";
         return found.not_taken("this", node, words);
     }
-    match act_in(found, node) {
-        Some(act) => {
-            check_place(found, around, in_setup, node, act)
-                && check_keys_beside(found, node, act.shown, act.keys, &["if"])
-                && check_values(found, node, act.keys)
+    match step_in(found, node) {
+        Some(ActKeys { act, keys, place }) => {
+            check_place(found, around, in_setup, node, place)
+                && check_keys_beside(found, node, Quoted(act.word()), keys, &["if"])
+                && check_values(found, node, keys)
                 && check_condition(found, around, in_setup, node)
                 && check_seat(found, around, node.get("seat"))
                 && check_named(found, around, node, act)

@@ -68,16 +68,16 @@ pub fn tell_form(found: &mut Finding, whole: Node) -> bool {
 /// Whether the keys of a script are right.
 pub fn check_top(found: &mut Finding, around: Around) -> bool {
     if around.form == 2 {
-        return check_keys(found, around.whole, "a script of form 2", KEYS_OF_TWO);
+        return check_keys(found, around.whole, Say("a script of form 2"), KEYS_OF_TWO);
     }
     if around.form == 3 {
-        return check_keys(found, around.whole, "a script of form 3", KEYS_OF_TWO);
+        return check_keys(found, around.whole, Say("a script of form 3"), KEYS_OF_TWO);
     }
     if let Some(slots) = around.whole.get("slots") {
         found.wrong(slots, &[Say("\"slots\" is no key of form 1")]);
         return found.remedy(Remedy::Do("Write \"form\":2"));
     }
-    check_keys(found, around.whole, "a script of form 1", KEYS)
+    check_keys(found, around.whole, Say("a script of form 1"), KEYS)
 }
 
 /// The key of a section, which has a number or a list.

@@ -18,6 +18,8 @@ pub struct Span {
 pub enum Piece {
     /// These words.
     Say(&'static str),
+    /// This word, in quotation marks.
+    Quoted(&'static str),
     /// This number.
     Number(u64),
     /// What stands there in the text, or its beginning where that is long.
@@ -174,10 +176,18 @@ fn put_keys(out: &mut Vec<u8>, keys: &[&'static str]) -> Result<(), AllocError> 
     Ok(())
 }
 
+/// Puts a word in quotation marks. The one error is want of memory.
+fn put_quoted(out: &mut Vec<u8>, word: &str) -> Result<(), AllocError> {
+    out.extend_from_slice(b"\"")?;
+    out.extend_from_slice(word.as_bytes())?;
+    out.extend_from_slice(b"\"")
+}
+
 /// Puts a piece. The one error is want of memory.
 fn put_piece(out: &mut Vec<u8>, text: &[u8], piece: Piece) -> Result<(), AllocError> {
     match piece {
         Piece::Say(words) => out.extend_from_slice(words.as_bytes()),
+        Piece::Quoted(word) => put_quoted(out, word),
         Piece::Number(number) => put_number(out, number),
         Piece::Show(span) => put_shown(out, cut(text, span.start, span.end)),
         Piece::Keys(keys) => put_keys(out, keys),

@@ -2,7 +2,7 @@
 
 use crate::texts::{the_transcript, transcript_text};
 use crate::tried::{Halt, Tried, wanted};
-use irp_fitting::{Unfit, Unwritten, write_fitting};
+use irp_fast_reader::{Unfit, Unwritten, write_fitting};
 use irp_shared::Transcript;
 use irp_transcript_writer::{Cause, WriteFault, WriterOut, line_of, write_transcript};
 use irp_types::{Call, Entry, IrpRef, Questions, Refusal, Reply, Row};

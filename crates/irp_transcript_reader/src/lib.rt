@@ -12,6 +12,7 @@ mod replies;
 mod word_lines;
 
 pub use entry_calls::{EntryCall, entry_call_at};
+pub use forms::{has_entry, has_word};
 pub use read::{TakeLine, read_lines};
 pub use read_fault::ReadFault;
 pub use reading::{MOST_BYTES, Reading};

@@ -1,19 +1,19 @@
--- A text that is judged block after block.
-use Rattle.std.proofs.Common.{◌≡◌, suc, zero, inl, inr, true, false, is_some, slice_get, ◌∷◌, ℕ, ◌+◌, ◌<◌, ◌≤◌, List, [], ◌++◌, length, take, drop, Option, Some, None, IfOk, Result, Ok, Err, refl, sym, subst, ap, ◌∙◌, append_assoc, append-nil, arith, length-append}
+-- A transcript that is judged line after line.
+use Rattle.std.proofs.Common.{◌≡◌, suc, zero, inl, inr, true, false, is_some, slice_get, ◌∷◌, ℕ, ◌+◌, ◌<◌, ◌≤◌, List, [], ◌++◌, length, take, Option, Some, None, refl, sym, subst, ap, ◌∙◌, arith, length-append}
 use Rattle.std.proofs.lemmas.Bool.{cases_lt}
-use Rattle.std.proofs.lemmas.List.{length-take-le, take-append-drop, take-append-le}
+use Rattle.std.proofs.lemmas.List.{take-append-le}
 use Rattle.std.proofs.lemmas.Option.{none-some, slice_get_within}
 use Rattle.std.specs.Borrow.{Bor}
 use Rattle.std.specs.Option.{option_copied}
-use Rattle.std.specs.Io.KnownBytes.{IsAtEnd}
 use Rattle.irp_judge.specs.Judging.{HasJudged, JudgeValue}
 use Rattle.irp_transcript.specs.Headers.{fixed_of}
 use Rattle.irp_transcript.specs.Transcripts.{TranscriptValue, no_lines}
 use Rattle.irp_transcript.specs.declared.header.Header.{Header}
-use Rattle.irp_fast_reader.specs.Fed.{HasRead, IsInPlace, with_line}
-use Rattle.irp_fast_reader.specs.declared.line.Line.{Line}
-use Rattle.irp_fast_reader.specs.declared.line.Line.TheVariants.{Header as HeaderLine, Entry as EntryLine, Word as WordLine}
-use Rattle.irp_fast_reader.specs.declared.reader.Reader.{Reader}
+use Rattle.irp_fast_reader.specs.Fed.{with_line}
+use Rattle.irp_fast_reader.specs.declared.line.Line.TheVariants.{Header as HeaderLine}
+use Rattle.irp_feed.specs.Feeding.{Fails, refused_line}
+use Rattle.irp_feed.specs.Input.{Bytes}
+use Rattle.irp_feed.specs.declared.unfed.Unfed.{Unfed}
 use Rattle.irp_judge.specs.declared.verdict.Verdict.TheVariants.{Illegal}
 use Rattle.irp_types.specs.declared.entry.Entry.{Entry}
 use Rattle.irp_types.specs.State.{Fixed}
@@ -22,10 +22,8 @@ use Rattle.irp_judge.specs.Checked.{IsExplained, IsFirstIllegal, IsFirstWrong, I
 use Rattle.irp_judge.specs.declared.verdict.Wrong.{Wrong}
 use Rattle.irp_judge.proofs.Feeding.{wrong_stays}
 use Rattle.irp_judge.proofs.Verdicts.{illegal_verdict, legal_verdict, verdict_with}
-use Rattle.irp_listing.specs.Bytes.{Bytes}
-use Rattle.irp_view.specs.Reading.{IsTextOf}
-use Rattle.irp_view.specs.Feeding.{IsHopeless, IsSoFar}
-use Rattle.irp_view.specs.Judging.{AreJudged, Concludes, Ends, IsFound, IsKept}
+use Rattle.irp_view.specs.Judging.{IsFound, IsJudged, IsKept}
+use Rattle.irp_view.specs.Reading.{line_of}
 use Rattle.irp_page.specs.declared.draft.Draft.{Draft}
 use Rattle.irp_page.specs.declared.choosing.Choice.{Choice}
 use Rattle.irp_view.specs.Drafts.{AreDrafted, choice_of}
@@ -34,94 +32,6 @@ use Rattle.irp_view.specs.declared.refused_calls.RefusedCalls.{RefusedCalls}
 use Rattle.irp_view.specs.declared.judging.Found.{Found}
 use Rattle.irp_view.specs.declared.judging.Kept.{Kept}
 use Rattle.irp_view.specs.declared.reading.Unread.{Unread}
-use Rattle.irp_view.proofs.Fed.{ended_fails, is_input, joined}
-
--- a line behind the header leaves the header
-pub header_stays : (before : TranscriptValue) (line : Line) (header : Header) → IsInPlace before line → before.header ≡ Some header → (with_line before line).header ≡ Some header
-header_stays before (HeaderLine other) header place is = absurd (none-some header (sym (ap (λ (it : TranscriptValue). it.header) place) ∙ is))
-header_stays before (EntryLine entry) header place is = is
-header_stays before (WordLine word) header place is = is
-
--- ---- within a block
-
--- some of the block was read and judged, and this is left
-pub record IsWithin (reader : Reader) (judge : JudgeValue) (kept : Kept) (text block rest : List ℕ) : Type 0 where
-  pub piece : List ℕ
-  pub whole : block ≡ piece ++ rest
-  pub judged : AreJudged reader judge kept (text ++ piece)
-
-pub starts_within : (reader : Reader) (judge : JudgeValue) (kept : Kept) (text block : List ℕ) → AreJudged reader judge kept text → IsWithin reader judge kept text block block
-starts_within reader judge kept text block judged = record {
-  piece = [];
-  whole = refl;
-  judged = subst (AreJudged reader judge kept) (sym (append-nil text)) judged;
-}
-
-pub ends_within : (reader : Reader) (judge : JudgeValue) (kept : Kept) (text block rest : List ℕ) → rest ≡ [] → IsWithin reader judge kept text block rest → AreJudged reader judge kept (text ++ block)
-ends_within reader judge kept text block rest none within =
-    let whole : block ≡ within.piece = within.whole ∙ ap (λ (last : List ℕ). within.piece ++ last) none ∙ append-nil within.piece in
-    subst (λ (given : List ℕ). AreJudged reader judge kept (text ++ given)) (sym whole) within.judged
-
--- the block ends before the line does
-pub kept_within : (old new : Reader) (judge : JudgeValue) (kept : Kept) (text block rest : List ℕ) (within : IsWithin old judge kept text block rest)
-    → HasRead new ((text ++ within.piece) ++ rest) within.judged.transcript → AreJudged new judge kept (text ++ block)
-kept_within old new judge kept text block rest within read =
-    let same : (text ++ within.piece) ++ rest ≡ text ++ block = joined text block within.piece rest within.whole in
-    let size : length ((text ++ within.piece) ++ rest) ≡ length (text ++ block) = ap length same in
-    record {
-      transcript = within.judged.transcript;
-      read = subst (λ (given : List ℕ). HasRead new given within.judged.transcript) same read;
-      header = within.judged.header;
-      judged = within.judged.judged;
-      entry = within.judged.entry;
-      words = within.judged.words;
-      few = omega (arith, within.judged.few, size, length-append (text ++ within.piece) rest);
-      drafted = within.judged.drafted;
-      noted = within.judged.noted;
-    }
-
--- a line that is refused
-pub hopeless_within : (reader : Reader) (judge : JudgeValue) (kept : Kept) (text block rest : List ℕ) (unread : Unread) (within : IsWithin reader judge kept text block rest)
-    → IsHopeless unread ((text ++ within.piece) ++ rest) → IsHopeless unread (text ++ block)
-hopeless_within reader judge kept text block rest unread within hopeless =
-    subst (IsHopeless unread) (joined text block within.piece rest within.whole) hopeless
-
--- a line adds at most one word line
-words_more : (before : TranscriptValue) (line : Line) → length (with_line before line).words ≤ length before.words + 1
-words_more before (HeaderLine header) = omega arith
-words_more before (EntryLine entry) = omega arith
-words_more before (WordLine word) = omega (arith, length-append before.words (word ∷ []))
-
--- one line more
-pub on_within : (old new : Reader) (judge : JudgeValue) (kept : Kept) (after : JudgeValue) (then : Kept) (text block rest : List ℕ) (count : ℕ) (line : Line)
-    (within : IsWithin old judge kept text block rest)
-    → 0 < count → count ≤ length rest → IsInPlace within.judged.transcript line
-    → HasRead new ((text ++ within.piece) ++ take count rest) (with_line within.judged.transcript line)
-    → after.header ≡ judge.header → HasJudged after (with_line within.judged.transcript line).entries
-    → IsKept (with_line within.judged.transcript line).entries after.wrong then.entry
-    → then.words ≡ length (with_line within.judged.transcript line).words
-    → AreDrafted then.draft (with_line within.judged.transcript line).entries
-    → HasNoted then.refused (with_line within.judged.transcript line).entries
-    → IsWithin new after then text block (drop count rest)
-on_within old new judge kept after then text block rest count line within some fits place read header judged entry words drafted noted =
-    let split : rest ≡ take count rest ++ drop count rest = sym (take-append-drop count rest) in
-    let same : (text ++ within.piece) ++ take count rest ≡ text ++ (within.piece ++ take count rest) = append_assoc text within.piece (take count rest) in
-    let size : length ((text ++ within.piece) ++ take count rest) ≡ length (text ++ (within.piece ++ take count rest)) = ap length same in
-    record {
-      piece = within.piece ++ take count rest;
-      whole = within.whole ∙ ap (λ (given : List ℕ). within.piece ++ given) split ∙ sym (append_assoc within.piece (take count rest) (drop count rest));
-      judged = record {
-        transcript = with_line within.judged.transcript line;
-        read = subst (λ (given : List ℕ). HasRead new given (with_line within.judged.transcript line)) same read;
-        header = header_stays within.judged.transcript line judge.header place within.judged.header ∙ ap (λ (given : Header). Some given) (sym header);
-        judged = judged;
-        entry = entry;
-        words = words;
-        few = omega (arith, words_more within.judged.transcript line, within.judged.few, size, length-append (text ++ within.piece) (take count rest), length-take-le count rest fits, some);
-        drafted = drafted;
-        noted = noted;
-      };
-    }
 
 -- ---- what is kept of entries
 
@@ -198,31 +108,45 @@ keeps_still old new history entry kept header was is there some =
 
 -- ---- what was found
 
+kept_none : (wrong : Option Wrong) → IsKept [] wrong None
+kept_none None = tt
+kept_none (Some wrong) = refl
+
+-- behind the header nothing was judged
+pub starts_judged : (judge : JudgeValue) (kept : Kept) (header : Header) → judge.header ≡ header → HasJudged judge [] → kept.words ≡ 0 → AreDrafted kept.draft []
+    → HasNoted kept.refused [] → kept.entry ≡ None → IsJudged judge kept (choice_of kept.draft) (with_line no_lines (HeaderLine header))
+starts_judged judge kept header same judged words drafted noted none = record {
+  header = subst (λ (given : Header). Some header ≡ Some given) (sym same) refl;
+  judged = judged;
+  entry = subst (IsKept [] judge.wrong) (sym none) (kept_none judge.wrong);
+  words = words;
+  choice = refl;
+  drafted = drafted;
+  noted = noted;
+}
+
 some_header : (known : Option Header) (header : Header) (entries : List Entry) → known ≡ Some header → known ≡ None → entries ≡ []
 some_header known header entries is none = absurd (none-some header (sym none ∙ is))
 
-pub finds : (reader : Reader) (judge : JudgeValue) (kept : Kept) (text : List ℕ) (found : Found) (judged : AreJudged reader judge kept text)
-    → IsTextOf text judged.transcript → found.entries ≡ judge.fed → found.words ≡ kept.words → found.wrong ≡ judge.wrong → found.entry ≡ kept.entry
-    → found.draft ≡ kept.draft → found.refused ≡ kept.refused → Concludes (Ok found) text
-finds reader judge kept text found judged read entries words wrong entry draft refused =
-    let of_judge : IsFirstWrongWith (Some judge.header) judged.transcript.entries judge.wrong = judged.judged.wrong in
-    let explained : IsExplained judged.transcript found.wrong =
-    subst (λ (given : Option Header). IsFirstWrongWith given judged.transcript.entries found.wrong) (sym judged.header)
-    (subst (λ (given : Option Wrong). IsFirstWrongWith (Some judge.header) judged.transcript.entries given) (sym wrong) of_judge) in
-    let there : IsKept judged.transcript.entries found.wrong kept.entry = subst (λ (given : Option Wrong). IsKept judged.transcript.entries given kept.entry) (sym wrong) judged.entry in (
-      judged.transcript,
-      read,
-      record {
-        entries = entries ∙ judged.judged.counted;
-        words = words ∙ judged.words;
-        explained = explained;
-        judged = verdict_with judged.transcript.header judged.transcript.entries found.wrong
-            (some_header judged.transcript.header judge.header judged.transcript.entries judged.header) explained;
-        entry = subst (IsKept judged.transcript.entries found.wrong) (sym entry) there;
-        drafted = subst (λ (given : Option Draft). AreDrafted given judged.transcript.entries) (sym draft) judged.drafted;
-        noted = subst (λ (given : RefusedCalls). HasNoted given judged.transcript.entries) (sym refused) judged.noted;
-      },
-    )
+pub finds : (judge : JudgeValue) (kept : Kept) (choice : Option Choice) (transcript : TranscriptValue) (found : Found) → IsJudged judge kept choice transcript
+    → found.entries ≡ judge.fed → found.words ≡ kept.words → found.wrong ≡ judge.wrong → found.entry ≡ kept.entry
+    → found.draft ≡ kept.draft → found.refused ≡ kept.refused → IsFound transcript found
+finds judge kept choice transcript found are entries words wrong entry draft refused =
+    let of_judge : IsFirstWrongWith (Some judge.header) transcript.entries judge.wrong = are.judged.wrong in
+    let explained : IsExplained transcript found.wrong =
+    subst (λ (given : Option Header). IsFirstWrongWith given transcript.entries found.wrong) (sym are.header)
+    (subst (λ (given : Option Wrong). IsFirstWrongWith (Some judge.header) transcript.entries given) (sym wrong) of_judge) in
+    let there : IsKept transcript.entries found.wrong kept.entry = subst (λ (given : Option Wrong). IsKept transcript.entries given kept.entry) (sym wrong) are.entry in
+    record {
+      entries = entries ∙ are.judged.counted;
+      words = words ∙ are.words;
+      explained = explained;
+      judged = verdict_with transcript.header transcript.entries found.wrong
+          (some_header transcript.header judge.header transcript.entries are.header) explained;
+      entry = subst (IsKept transcript.entries found.wrong) (sym entry) there;
+      drafted = subst (λ (given : Option Draft). AreDrafted given transcript.entries) (sym draft) are.drafted;
+      noted = subst (λ (given : RefusedCalls). HasNoted given transcript.entries) (sym refused) are.noted;
+    }
 
 -- a text without lines
 pub finds_nothing : (found : Found) → found.entries ≡ 0 → found.words ≡ 0 → found.wrong ≡ None → AreDrafted found.draft [] → HasNoted found.refused [] → IsFound no_lines found
@@ -236,14 +160,6 @@ finds_nothing found entries words wrong drafted noted = record {
   noted = noted;
 }
 
--- what is concluded of the text of an input at its end
-pub ends : (result : Result Found Unread) (old now : Bytes) (left : ℕ) (text : List ℕ) → IsSoFar old now left text → IsAtEnd now → Concludes result text → Ends old now result
-ends (Ok found) old now left text so_far end concluded = (concluded.0, (text, is_input old now left text so_far end, concluded.1), concluded.2)
-ends (Err unread) old now left text so_far end refused = ended_fails unread old now left text so_far end refused
-
--- ---- drafts
-
--- whose page is drawn
-pub choice_through : (result : Result Found Unread) (before after : Option Choice) → before ≡ after → IfOk result (λ (found : Found). choice_of found.draft ≡ before) → IfOk result (λ (found : Found). choice_of found.draft ≡ after)
-choice_through result before after same is =
-    subst (λ (given : Option Choice). IfOk result (λ (found : Found). choice_of found.draft ≡ given)) same is
+-- what is told where the input holds none
+pub fails_told : (unfed : Unfed) (unread : Unread) (old now : Bytes) → line_of unread ≡ refused_line unfed → Fails old now (refused_line unfed) → Fails old now (line_of unread)
+fails_told unfed unread old now same fails = subst (Fails old now) (sym same) fails

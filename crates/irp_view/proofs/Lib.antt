@@ -1,5 +1,4 @@
 pub mod Drawn
-pub mod Fed
 pub mod Gathered
 pub mod Judged
 pub mod Listed

@@ -1,18 +1,12 @@
--- Bytes that were read one piece after another.
-use Rattle.std.proofs.Common.{ℕ, List, [], ◌++◌, Option, Some, None, refl, sym, ap, ◌∙◌, append_assoc, arith}
+-- Bytes that weren't read.
+use Rattle.std.proofs.Common.{ℕ, List, [], Option, Some, None, refl, arith}
 use Rattle.std.specs.Io.KnownBytes.{Consumes}
-use Rattle.irp_view.specs.Reading.{TakesAtMost}
+use Rattle.irp_feed.specs.Input.{TakesAtMost}
 
 reads_none : (old : Option (List ℕ)) → Consumes old old []
 reads_none None = tt
 reads_none (Some xs) = refl
 
-pub reads_on : (t u : List ℕ) (old mid new : Option (List ℕ)) → Consumes old mid t → Consumes mid new u → Consumes old new (t ++ u)
-reads_on t u None mid new h k = tt
-reads_on t u (Some xs) None new h k = absurd h
-reads_on t u (Some xs) (Some ys) None h k = absurd k
-reads_on t u (Some xs) (Some ys) (Some zs) h k = h ∙ ap (λ s. t ++ s) k ∙ sym (append_assoc t u zs)
-
--- nothing was
+-- none was read
 pub takes_none : (limit : ℕ) (old : Option (List ℕ)) → TakesAtMost limit old old
 takes_none limit old = ([], omega arith, reads_none old)

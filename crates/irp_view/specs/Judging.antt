@@ -1,16 +1,15 @@
--- How the text of an input is judged, block after block.
-use Rattle.std.specs.Prelude.{◌≡◌, ◌≤◌, List, length, slice_get, Option, Some, None, Result, Ok, Err, ℕ}
+-- How the transcript in an input is judged.
+use Rattle.std.specs.Prelude.{◌≡◌, List, length, slice_get, Option, Some, None, Result, Ok, Err}
 use Rattle.irp_types.specs.declared.entry.Entry.{Entry}
 use Rattle.irp_transcript.specs.Transcripts.{TranscriptValue}
 use Rattle.irp_judge.specs.Checked.{IsExplained, IsVerdictOn, verdict_of}
 use Rattle.irp_judge.specs.Judging.{HasJudged, JudgeValue}
 use Rattle.irp_judge.specs.declared.verdict.Wrong.{Wrong}
-use Rattle.irp_fast_reader.specs.Fed.{HasRead}
-use Rattle.irp_fast_reader.specs.declared.reader.Reader.{Reader}
-use Rattle.irp_listing.specs.Bytes.{Bytes}
-use Rattle.irp_view.specs.Reading.{Holds, IsTextOf, IsTextOfNone}
-use Rattle.irp_view.specs.Drafts.{AreDrafted}
-use Rattle.irp_view.specs.Feeding.{Fails, IsHopeless}
+use Rattle.irp_feed.specs.Feeding.{Fails}
+use Rattle.irp_feed.specs.Input.{Bytes, Holds}
+use Rattle.irp_page.specs.declared.choosing.Choice.{Choice}
+use Rattle.irp_view.specs.Drafts.{AreDrafted, choice_of}
+use Rattle.irp_view.specs.Reading.{line_of}
 use Rattle.irp_view.specs.RefusedCalls.{HasNoted}
 use Rattle.irp_view.specs.declared.judging.Found.{Found}
 use Rattle.irp_view.specs.declared.judging.Judged.{Judged}
@@ -34,27 +33,16 @@ pub record IsFound (transcript : TranscriptValue) (found : Found) : Type 0 where
   pub drafted : AreDrafted found.draft transcript.entries
   pub noted : HasNoted found.refused transcript.entries
 
--- the lines of this text were read, and their entries judged
-pub record AreJudged (reader : Reader) (judge : JudgeValue) (kept : Kept) (text : List ℕ) : Type 0 where
-  pub transcript : TranscriptValue
-  pub read : HasRead reader text transcript
+-- the lines of this transcript were taken, and its entries judged, for a page of this choice, where one is drawn
+pub record IsJudged (judge : JudgeValue) (kept : Kept) (choice : Option Choice) (transcript : TranscriptValue)
+    : Type 0 where
   pub header : transcript.header ≡ Some judge.header
   pub judged : HasJudged judge transcript.entries
   pub entry : IsKept transcript.entries judge.wrong kept.entry
   pub words : kept.words ≡ length transcript.words
-  pub few : length transcript.words ≤ length text
+  pub choice : choice_of kept.draft ≡ choice
   pub drafted : AreDrafted kept.draft transcript.entries
   pub noted : HasNoted kept.refused transcript.entries
-
--- what was found in a whole text, or its first line that is refused
-abbrev pub Concludes : Result Found Unread → List ℕ → Type 0
-Concludes (Ok found) text = (transcript : TranscriptValue) × IsTextOf text transcript × IsFound transcript found
-Concludes (Err unread) text = IsTextOfNone text unread
-
--- what becomes of one more block
-abbrev pub JudgesBlock : Result (Unit {0}) Unread → Reader → JudgeValue → Kept → List ℕ → Type 0
-JudgesBlock (Ok done) reader judge kept text = AreJudged reader judge kept text
-JudgesBlock (Err unread) reader judge kept text = IsHopeless unread text
 
 -- ---- the input
 
@@ -62,12 +50,12 @@ JudgesBlock (Err unread) reader judge kept text = IsHopeless unread text
 abbrev pub HoldsFound : Bytes → Bytes → Found → Type 0
 HoldsFound old new found = (transcript : TranscriptValue) × Holds old new transcript × IsFound transcript found
 
--- what was found in the transcript that the input holds, or why it holds none
-abbrev pub Ends : Bytes → Bytes → Result Found Unread → Type 0
-Ends old new (Ok found) = HoldsFound old new found
-Ends old new (Err unread) = Fails old new unread
+-- what was found in the transcript that the input holds, with a draft of this choice; or why it holds none
+abbrev pub Ends : Bytes → Bytes → Option Choice → Result Found Unread → Type 0
+Ends old new choice (Ok found) = HoldsFound old new found × (choice_of found.draft ≡ choice)
+Ends old new choice (Err unread) = Fails old new (line_of unread)
 
 -- the same with the header
 abbrev pub EndsWith : Bytes → Bytes → Result Judged Unread → Type 0
 EndsWith old new (Ok judged) = HoldsFound old new judged.found
-EndsWith old new (Err unread) = Fails old new unread
+EndsWith old new (Err unread) = Fails old new (line_of unread)

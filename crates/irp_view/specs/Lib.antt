@@ -1,7 +1,6 @@
 pub mod Blocks
 pub mod Drafts
 pub mod Ending
-pub mod Feeding
 pub mod Judging
 pub mod Listed
 pub mod Parts

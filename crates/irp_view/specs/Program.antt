@@ -5,13 +5,14 @@ use Rattle.irp_transcript.specs.Transcripts.{TranscriptValue}
 use Rattle.irp_judge.specs.Checked.{IsExplained}
 use Rattle.irp_judge.specs.declared.verdict.Verdict.{Verdict}
 use Rattle.irp_judge.specs.declared.verdict.Wrong.{Wrong}
-use Rattle.irp_listing.specs.Bytes.{Bytes}
+use Rattle.irp_feed.specs.Feeding.{HoldsNone}
+use Rattle.irp_feed.specs.Input.{Bytes, Holds}
 use Rattle.irp_listing.specs.Writing.{BreaksOff, IsQuiet, Written}
 use Rattle.irp_listing.specs.declared.writing.Unwritten.{Unwritten}
 use Rattle.irp_page.specs.Drawing.{Draws, DrawsPart}
 use Rattle.irp_view.specs.Ending.{ending_of, of_unread, of_unwritten, of_verdict}
 use Rattle.irp_view.specs.Listed.{BreaksAt, StopsAt}
-use Rattle.irp_view.specs.Reading.{Holds, HoldsNone}
+use Rattle.irp_view.specs.Reading.{line_of}
 use Rattle.irp_view.specs.Showing.{Shows}
 use Rattle.irp_view.specs.Telling.{Says, SaysNothing}
 use Rattle.irp_view.specs.declared.ending.Ending.{Ending}
@@ -70,7 +71,7 @@ AnswersRead task before after ending =
 -- it holds none, and nothing went out
 abbrev pub ReadsNone : Streams → Streams → Ending → Type 0
 ReadsNone before after ending =
-    (unread : Unread) × HoldsNone before.left after.left unread × (ending ≡ of_unread unread)
+    (unread : Unread) × HoldsNone before.left after.left (line_of unread) × (ending ≡ of_unread unread)
     × IsQuiet before.output.gone after.output.gone before.output.failures after.output.failures
 
 -- it holds none: what shows the lines before the one that is refused went out
@@ -78,7 +79,7 @@ pub record ShowsBefore (only : Option IrpRef) (span : Option Span) (before after
     (ending : Ending) : Type 0 where
   pub unread : Unread
   pub stops :
-      StopsAt only span before.left after.left unread
+      StopsAt only span before.left after.left (line_of unread)
       before.output.gone after.output.gone before.output.failures after.output.failures
   pub ending_is : ending ≡ of_unread unread
 

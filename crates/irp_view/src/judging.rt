@@ -1,33 +1,30 @@
-//! The text of an input, judged block after block. Of it a block is kept, and of what was judged the first entry that
-//! isn't legal.
+//! The transcript in an input, judged as it is read. Of what was judged the first entry is kept that isn't legal.
 
-ghost use Rattle.std.specs.Prelude.{ℕ, ◌≡◌, ◌+◌, ◌<◌, ◌≤◌, ◌^◌, List, [], ◌∷◌, ◌++◌, length, Some, IfOk, OnOk};
+ghost use Rattle.std.specs.Prelude.{◌≡◌, ◌+◌, ◌<◌, ◌≤◌, ◌^◌, List, [], ◌∷◌, ◌++◌, length, Option, Some, IfOk, OnOk};
 ghost use Rattle.irp_types.specs.declared.entry.Entry.{Entry};
 ghost use Rattle.irp_judge.specs.Judges.{seen};
 ghost use Rattle.irp_judge.specs.Judging.{HasJudged};
 ghost use Rattle.irp_fast_reader.specs.Fed.{IsInPlace, with_line};
+ghost use Rattle.irp_feed.specs.Feeding.{Starts};
+ghost use Rattle.irp_feed.specs.Input.{Bytes, most_bytes};
+ghost use Rattle.irp_page.specs.declared.choosing.Choice.{Choice};
 ghost use Rattle.irp_transcript.specs.Headers.{IsHeader};
-ghost use Rattle.irp_transcript.specs.Transcripts.{TranscriptValue};
-ghost use Rattle.irp_listing.specs.Bytes.{Bytes};
-ghost use Rattle.irp_view.specs.Reading.{most_bytes};
+ghost use Rattle.irp_transcript.specs.Transcripts.{TranscriptValue, no_lines};
 ghost use Rattle.irp_view.specs.Drafts.{AreDrafted, choice_of};
-ghost use Rattle.irp_view.specs.Feeding.{Starts};
-ghost use Rattle.irp_view.specs.Judging.{AreJudged, Concludes, Ends, EndsWith, IsKept, JudgesBlock};
-ghost use Rattle.irp_view.specs.RefusedCalls.{HasNoted};
+ghost use Rattle.irp_view.specs.Judging.{Ends, EndsWith, IsFound, IsJudged, IsKept};
 
 use crate::drawing::draft_line;
-use crate::input::{BLOCK, take_block};
-use crate::lines::Lines;
-use crate::reading::{Start, Unread, read_header, refuse};
+use crate::reading::{Unread, unread_behind};
+use crate::refusal::Before;
 use crate::refused_calls::{RefusedCalls, note_line};
-use irp_fast_reader::{Ahead, Line, count_threads};
+use irp_fast_reader::{Line, Reader};
+use irp_feed::{BLOCK, LineSink, Start, feed_rest, read_header};
 use irp_judge::{Judge, Wrong};
 use irp_page::Draft;
 use irp_transcript::Header;
 use irp_types::Entry;
 use std::alloc::{AllocError, Global};
 use std::io::Read;
-use std::thread::Threads;
 
 /// What is kept of the lines that were judged.
 #[derive(Drop)]
@@ -111,84 +108,63 @@ fn judge_line(judge: &mut Judge, kept: &mut Kept, line: Line) -> Result<(), Allo
     }
 }
 
-/// Takes a line: gives it to the draft, where there is one, to the refused calls and to the judge.
-fn take_line(judge: &mut Judge, kept: &mut Kept, line: Line) -> Result<(), AllocError>
-    ensures header { (seen judge.new).header ≡ (seen judge.old).header }
-    ensures choice { choice_of kept.new.draft ≡ choice_of kept.old.draft }
-    ensures drafted { (before : TranscriptValue) → AreDrafted kept.old.draft before.entries
-        → length before.entries + 1 < 2 ^ 64
-        → OnOk result (AreDrafted kept.new.draft (with_line before line).entries) }
-    ensures noted { (before : TranscriptValue) → HasNoted kept.old.refused before.entries
-        → length before.entries + 1 < 2 ^ 64
-        → OnOk result (HasNoted kept.new.refused (with_line before line).entries) }
-    ensures judged { (before : TranscriptValue) → IsInPlace before line
-        → before.header ≡ Some (seen judge.old).header
-        → HasJudged (seen judge.old) before.entries → length before.entries + 1 < 2 ^ 64
-        → IsKept before.entries (seen judge.old).wrong kept.old.entry
-        → kept.old.words ≡ length before.words → length before.words + 1 < 2 ^ 64
-        → OnOk result (HasJudged (seen judge.new) (with_line before line).entries
-        × IsKept (with_line before line).entries (seen judge.new).wrong kept.new.entry
-        × (kept.new.words ≡ length (with_line before line).words)) }
-{
-    draft_line(&mut kept.draft, &line)?;
-    note_line(&mut kept.refused, &line)?;
-    judge_line(judge, kept, line)
+/// Takes the lines of a transcript: has the judge judge its entries, and keeps what is kept of lines.
+#[derive(Drop)]
+struct Judging<'a> {
+    /// The judge of its history.
+    judge: Judge<'a>,
+    /// What is kept.
+    kept: Kept,
 }
 
-/// Reads the lines that end in a block, of which some were read ahead, and has the judge judge their entries.
-fn judge_block(
-    alloc: Global,
-    lines: &mut Lines,
-    judge: &mut Judge,
-    kept: &mut Kept,
-    block: &[u8],
-    ahead: &mut Ahead<'_>,
-) -> Result<(), Unread>
-    ensures header { (seen judge.new).header ≡ (seen judge.old).header }
-    ensures choice { choice_of kept.new.draft ≡ choice_of kept.old.draft }
-    ensures judged { (text : List ℕ) → AreJudged lines.old.reader (seen judge.old) kept.old text
-        → length text + length block.now ≤ most_bytes
-        → JudgesBlock result lines.new.reader (seen judge.new) kept.new (text ++ block.now) }
-{
-    let mut rest = block;
-    while !rest.is_empty() {
-        let Some(taken) = lines.next(alloc, rest, ahead)? else {
-            return Ok(());
-        };
-        let (line, count) = taken;
-        match take_line(judge, kept, line) {
-            Ok(()) => {}
-            Err(_) => return Err(Unread::NoMemory),
-        }
-        rest = &rest[count..];
+impl LineSink for Judging<'_> {
+    ghost use Rattle.std.specs.Prelude.{Option};
+    ghost use Rattle.irp_judge.specs.Judges.{seen};
+    ghost use Rattle.irp_page.specs.declared.choosing.Choice.{Choice};
+    ghost use Rattle.irp_view.specs.Judging.{IsJudged};
+
+    ghost Fixed = { Option Choice };
+
+    ghost has_taken = { λ judging choice transcript.
+        IsJudged (seen judging.judge) judging.kept choice transcript };
+
+    fn take(&mut self, line: Line) -> Result<(), AllocError> {
+        draft_line(&mut self.kept.draft, &line)?;
+        note_line(&mut self.kept.refused, &line)?;
+        judge_line(&mut self.judge, &mut self.kept, line)
     }
-    Ok(())
 }
 
-/// What was found in a text that was read to its end.
-fn found_in(lines: &Lines, judge: Judge, kept: Kept) -> Result<Found, Unread>
-    ensures choice { IfOk result (λ found. choice_of found.draft ≡ choice_of kept.draft) }
-    ensures found { (text : List ℕ) → AreJudged lines.now.reader (seen judge.entry) kept text
-        → length text ≤ most_bytes → Concludes result text }
+/// What was found in a transcript, all of whose lines were taken.
+fn found_in(judging: Judging<'_>) -> Found
+    ensures choice { choice_of result.draft ≡ choice_of judging.entry.kept.draft }
+    ensures found { (choice : Option Choice) (transcript : TranscriptValue)
+        → IsJudged (seen judging.entry.judge) judging.entry.kept choice transcript
+        → IsFound transcript result }
 {
-    lines.finish()?;
-    Ok(Found {
+    let Judging { judge, kept } = judging;
+    Found {
         entries: judge.fed(),
         words: kept.words,
         wrong: judge.into_wrong(),
         entry: kept.entry,
         draft: kept.draft,
         refused: kept.refused,
-    })
+    }
 }
 
-/// Judges what follows the header of a text. Several threads read a block's lines ahead, where there are such.
-fn judge_rest<R: Read, T: Threads + Sync>(
-    rt: &T,
+/// Which lines were taken behind this header.
+fn before_of(header: &Header, judging: &Judging<'_>) -> Before {
+    let entries = usize::try_from(judging.judge.fed()).unwrap_or(usize::MAX);
+    Before::behind(header, entries, judging.kept.words > 0)
+}
+
+/// Judges what follows the header of a text.
+fn judge_rest<R: Read>(
     alloc: Global,
     input: &mut R,
     buffer: &mut [u8],
-    lines: &mut Lines,
+    reader: &mut Reader,
     start: &Start,
     draft: Option<Draft>,
 ) -> Result<Found, Unread>
@@ -198,36 +174,37 @@ fn judge_rest<R: Read, T: Threads + Sync>(
     requires within { start.now.to ≤ length buffer.old }
     requires few { start.now.left ≤ most_bytes }
     requires fresh { AreDrafted draft [] }
-    ensures choice { IfOk result (λ found. choice_of found.draft ≡ choice_of draft) }
-    ensures ends { (old : Bytes) → Starts old (R.remaining input.old) start.now lines.old.reader buffer.old
-        → Ends old (R.remaining input.new) result }
+    ensures { (old : Bytes) → Starts old (R.remaining input.old) start.now reader.old buffer.old
+        → Ends old (R.remaining input.new) (choice_of draft) result }
 {
-    let threads = count_threads(rt);
-    let mut judge = Judge::new(alloc, &start.header);
-    let mut kept = Kept {
+    let judge = Judge::new(alloc, &start.header);
+    let kept = Kept {
         words: 0,
         entry: None,
         draft,
         refused: RefusedCalls::new(alloc),
     };
-    let (mut from, mut to, mut left) = (start.from, start.to, start.left);
-    loop {
-        let block = &buffer[from..to];
-        let mut ahead = Ahead::of(rt, alloc, block, threads);
-        let judged = judge_block(alloc, lines, &mut judge, &mut kept, block, &mut ahead);
-        drop(ahead);
-        if let Err(unread) = judged {
-            return Err(refuse(input, buffer, left, unread));
-        }
-        from = 0;
-        to = match take_block(input, buffer, left) {
-            Ok(count) => count,
-            Err(_) => return Err(Unread::Input),
-        };
-        if to == 0 {
-            return found_in(lines, judge, kept);
-        }
-        left -= to;
+    let mut judging = Judging { judge, kept };
+    match feed_rest(alloc, input, buffer, reader, start, &mut judging) {
+        Ok(()) => Ok(found_in(judging)),
+        Err(unfed) => Err(unread_behind(alloc, before_of(&start.header, &judging), unfed)),
+    }
+}
+
+/// What is found in a transcript without lines.
+#[tactic(auto, using(crate::proofs::Judged::finds_nothing))]
+fn found_nothing(alloc: Global, draft: Option<Draft>) -> Found
+    requires { AreDrafted draft [] }
+    ensures choice { choice_of result.draft ≡ choice_of draft }
+    ensures found { IsFound no_lines result }
+{
+    Found {
+        entries: 0,
+        words: 0,
+        wrong: None,
+        entry: None,
+        draft,
+        refused: RefusedCalls::new(alloc),
     }
 }
 
@@ -239,9 +216,7 @@ fn judge_rest<R: Read, T: Threads + Sync>(
 ///
 /// `Refused` with the number of the first line that is refused, where the input isn't the text of a transcript; `Input`
 /// where the input failed, or has more than 1,073,741,824 bytes; `NoMemory` where memory ran out.
-#[tactic(auto, using(crate::proofs::Judged::finds_nothing))]
-pub fn judge_input<R: Read, T: Threads + Sync>(
-    rt: &T,
+pub fn judge_input<R: Read>(
     alloc: Global,
     input: &mut R,
     draft: Option<Draft>,
@@ -251,21 +226,18 @@ pub fn judge_input<R: Read, T: Threads + Sync>(
     ensures ends { EndsWith (R.remaining input.old) (R.remaining input.new) result }
 {
     let mut buffer = [0u8; BLOCK];
-    let mut lines = Lines::new(alloc);
-    let Some(start) = read_header(alloc, input, &mut buffer, &mut lines)? else {
-        return Ok(Judged {
-            header: None,
-            found: Found {
-                entries: 0,
-                words: 0,
-                wrong: None,
-                entry: None,
-                draft,
-                refused: RefusedCalls::new(alloc),
-            },
-        });
+    let mut reader = Reader::new(alloc);
+    let start = match read_header(alloc, input, &mut buffer, &mut reader) {
+        Ok(Some(start)) => start,
+        Ok(None) => {
+            return Ok(Judged {
+                header: None,
+                found: found_nothing(alloc, draft),
+            });
+        }
+        Err(unfed) => return Err(unread_behind(alloc, Before::nothing(), unfed)),
     };
-    let found = judge_rest(rt, alloc, input, &mut buffer, &mut lines, &start, draft)?;
+    let found = judge_rest(alloc, input, &mut buffer, &mut reader, &start, draft)?;
     Ok(Judged {
         header: Some(start.header),
         found,

@@ -1,27 +1,37 @@
 //! The words `text` and `packet`: the transcript in an input, shown block after block as it is read.
 
 ghost use Rattle.std.specs.Prelude.{ℕ, ◌≡◌, ◌+◌, ◌<◌, ◌≤◌, List, [], ◌++◌, length, Option, Err};
-ghost use Rattle.irp_listing.specs.Bytes.{Bytes};
 ghost use Rattle.irp_types.specs.declared.names.IrpRef.{IrpRef};
 ghost use Rattle.irp_fast_reader.specs.declared.reader.Reader.{Reader};
+ghost use Rattle.irp_feed.specs.Feeding.{IsSoFar, Starts};
+ghost use Rattle.irp_feed.specs.Input.{Bytes, most_bytes};
+ghost use Rattle.irp_view.specs.declared.listing.Gathering.{Gathering};
 ghost use Rattle.irp_view.specs.declared.orders.Span.{Span};
-ghost use Rattle.irp_view.specs.declared.showing.Shown.{Shown};
-ghost use Rattle.irp_view.specs.Feeding.{IsSoFar, Starts};
-ghost use Rattle.irp_view.specs.Listed.{AreGathered, AreShown, GathersBlock, IsFresh, ShowsBlock, ShowsInput};
-ghost use Rattle.irp_view.specs.Reading.{most_bytes};
+ghost use Rattle.irp_view.specs.Listed.{
+  Aim,
+  AreGathered,
+  AreShown,
+  GathersBlock,
+  IsFresh,
+  SendsInput,
+  ShowsBlock,
+  ShowsInput,
+};
 
-use crate::input::{BLOCK, take_block};
-use crate::lines::Lines;
 use crate::orders::Span;
-use crate::reading::{Start, Unread, read_header, refuse};
+use crate::reading::{Unread, unread_behind};
+use crate::refusal::Before;
 use crate::showing::{Shown, Wanted};
-use irp_fast_reader::{Ahead, count_threads};
+use irp_fast_reader::{Line, Reader};
+use irp_feed::{
+    BLOCK, LineSink, RefusedLine, Start, Unfed, feed_block, read_header, refuse, take_block,
+};
 use irp_listing::{Choice, Unwritten, send};
+use irp_transcript::Header;
 use irp_transcript_writer::Out;
 use irp_types::IrpRef;
-use std::alloc::Global;
+use std::alloc::{AllocError, Global};
 use std::io::Read;
-use std::thread::Threads;
 
 /// Why an input's transcript isn't shown.
 #[derive(Drop)]
@@ -32,131 +42,147 @@ pub enum Unshown {
     Unwritten(Unwritten),
 }
 
-/// Reads the lines that end in a block, of which some were read ahead, and gathers what stands for them. Where memory
-/// runs out for that, nothing is left of what was gathered.
-fn gather_block(
-    alloc: Global,
-    lines: &mut Lines,
-    wanted: Wanted,
-    shown: &mut Shown,
-    block: &[u8],
-    ahead: &mut Ahead<'_>,
-) -> Result<(), Unread>
-    ensures { (sent text : List ℕ)
-        → AreGathered lines.old.reader wanted.choice.only wanted.span shown.old sent text
-        → shown.old.text.items ≡ [] → length text + length block.now ≤ most_bytes
-        → GathersBlock result lines.new.reader wanted.choice.only wanted.span shown.new sent
-        (text ++ block.now) }
-{
-    let mut rest = block;
-    while !rest.is_empty() {
-        let Some(taken) = lines.next(alloc, rest, ahead)? else {
-            return Ok(());
-        };
-        let (line, count) = taken;
-        match shown.line(wanted, line) {
-            Ok(()) => {}
-            Err(_) => {
-                shown.text.clear();
-                return Err(Unread::NoMemory);
-            }
-        }
-        rest = &rest[count..];
-    }
-    Ok(())
+/// Why what shows some lines isn't sent.
+#[derive(Drop)]
+pub enum Unsent {
+    /// They aren't read.
+    Unfed(Unfed),
+    /// It wasn't written.
+    Unwritten(Unwritten),
 }
 
-/// Reads the lines that end in a block, of which some were read ahead, and sends what stands for them.
+/// Takes the lines of a transcript, and gathers what stands for those that are wanted.
+#[derive(Drop)]
+pub struct Gathering {
+    /// What is wanted.
+    wanted: Wanted,
+    /// What is gathered of it.
+    shown: Shown,
+}
+
+impl LineSink for Gathering {
+    ghost use Rattle.irp_view.specs.Listed.{Aim, HasGathered};
+
+    ghost Fixed = { Aim };
+
+    ghost has_taken = { HasGathered };
+
+    fn take(&mut self, line: Line) -> Result<(), AllocError> {
+        self.shown.line(self.wanted, line)
+    }
+}
+
+/// Reads the lines that end in a block, and gathers what stands for them. Where memory runs out for that, nothing is left
+/// of what was gathered.
+fn gather_block(
+    alloc: Global,
+    reader: &mut Reader,
+    gathering: &mut Gathering,
+    block: &[u8],
+) -> Result<(), Unfed>
+    ensures { (aim : Aim) (text : List ℕ) → AreGathered reader.old gathering.old aim text
+        → gathering.old.shown.text.items ≡ [] → length text + length block.now ≤ most_bytes
+        → GathersBlock result reader.new gathering.new aim (text ++ block.now) }
+{
+    match feed_block(alloc, reader, gathering, block) {
+        Ok(()) => Ok(()),
+        Err(Unfed::NotTaken) => {
+            gathering.shown.text.clear();
+            Err(Unfed::NotTaken)
+        }
+        Err(Unfed::Refused { line, refused }) => Err(Unfed::Refused { line, refused }),
+        Err(Unfed::NoMemory) => Err(Unfed::NoMemory),
+        Err(Unfed::Input) => Err(Unfed::Input),
+    }
+}
+
+/// Reads the lines that end in a block, and sends what stands for them.
 fn show_block<O: Out>(
     alloc: Global,
     output: &mut O,
-    lines: &mut Lines,
-    wanted: Wanted,
-    shown: &mut Shown,
+    reader: &mut Reader,
+    gathering: &mut Gathering,
     block: &[u8],
-    ahead: &mut Ahead<'_>,
-) -> Result<(), Unshown>
-    ensures { (old : Bytes) (before : ℕ) (text : List ℕ)
-        → AreShown lines.old.reader wanted.choice.only wanted.span shown.old old (O.gone output.old)
+) -> Result<(), Unsent>
+    ensures { (only : Option IrpRef) (span : Option Span) (old : Bytes) (before : ℕ) (text : List ℕ)
+        → AreShown reader.old only span gathering.old old (O.gone output.old)
         before (O.failures output.old) text
         → length text + length block.now ≤ most_bytes
-        → ShowsBlock result lines.new.reader wanted.choice.only wanted.span shown.new old
+        → ShowsBlock result reader.new only span gathering.new old
         (O.gone output.new) before (O.failures output.new) (text ++ block.now) }
 {
-    let read = gather_block(alloc, lines, wanted, shown, block, ahead);
-    match send(output, shown.text.as_slice()) {
-        Ok(()) => shown.text.clear(),
-        Err(fault) => return Err(Unshown::Unwritten(fault)),
+    let read = gather_block(alloc, reader, gathering, block);
+    match send(output, gathering.shown.text.as_slice()) {
+        Ok(()) => gathering.shown.text.clear(),
+        Err(fault) => return Err(Unsent::Unwritten(fault)),
     }
     match read {
         Ok(()) => Ok(()),
-        Err(unread) => Err(Unshown::Unread(unread)),
+        Err(unfed) => Err(Unsent::Unfed(unfed)),
     }
 }
 
 /// Takes the rest of an input whose text is refused. Where the output failed nothing more is taken.
-fn stop<R: Read>(input: &mut R, buffer: &mut [u8], left: usize, unshown: Unshown) -> Unshown
+fn stop<R: Read>(input: &mut R, buffer: &mut [u8], left: usize, unsent: Unsent) -> Unsent
     requires few { left ≤ most_bytes }
     requires room { 0 < length buffer.old }
     ensures { (start : Bytes) (text : List ℕ) (reader : Reader) (only : Option IrpRef)
-        (span : Option Span) (shown : Shown) (old new : Bytes) (before after : ℕ)
+        (span : Option Span) (gathering : Gathering) (old new : Bytes) (before after : ℕ)
         → IsSoFar start (R.remaining input.old) left text
-        → ShowsBlock (Err unshown) reader only span shown old new before after text
-        → ShowsInput (Err result) only span start (R.remaining input.new) old new before after }
+        → ShowsBlock (Err unsent) reader only span gathering old new before after text
+        → SendsInput (Err result) only span start (R.remaining input.new) old new before after }
 {
-    match unshown {
-        Unshown::Unread(unread) => Unshown::Unread(refuse(input, buffer, left, unread)),
-        Unshown::Unwritten(fault) => Unshown::Unwritten(fault),
+    match unsent {
+        Unsent::Unfed(unfed) => Unsent::Unfed(refuse(input, buffer, left, unfed)),
+        Unsent::Unwritten(fault) => Unsent::Unwritten(fault),
     }
 }
 
-/// Shows the lines that follow the header of a text. Several threads read a block's lines ahead, where there are
-/// such.
-fn show_rest<R: Read, O: Out, T: Threads + Sync>(
-    rt: &T,
+/// Shows the lines that follow the header of a text.
+fn show_rest<R: Read, O: Out>(
     alloc: Global,
     input: &mut R,
     output: &mut O,
     buffer: &mut [u8],
-    lines: &mut Lines,
+    reader: &mut Reader,
     start: &Start,
-    wanted: Wanted,
-    shown: &mut Shown,
-) -> Result<(), Unshown>
+    gathering: &mut Gathering,
+) -> Result<(), Unsent>
     requires room { 0 < length buffer.old }
     requires order { start.now.from ≤ start.now.to }
     requires within { start.now.to ≤ length buffer.old }
     requires few { start.now.left ≤ most_bytes }
-    requires fresh { IsFresh shown.old }
+    requires fresh { IsFresh gathering.old.shown }
     ensures { (left : Bytes)
-        → Starts left (R.remaining input.old) start.now lines.old.reader buffer.old
-        → ShowsInput result wanted.choice.only wanted.span left (R.remaining input.new)
-        (O.gone output.old) (O.gone output.new) (O.failures output.old) (O.failures output.new) }
+        → Starts left (R.remaining input.old) start.now reader.old buffer.old
+        → SendsInput result gathering.old.wanted.choice.only gathering.old.wanted.span left
+        (R.remaining input.new) (O.gone output.old) (O.gone output.new)
+        (O.failures output.old) (O.failures output.new) }
 {
-    let threads = count_threads(rt);
     let (mut from, mut to, mut left) = (start.from, start.to, start.left);
     loop {
-        let block = &buffer[from..to];
-        let mut ahead = Ahead::of(rt, alloc, block, threads);
-        let read = show_block(alloc, output, lines, wanted, shown, block, &mut ahead);
-        drop(ahead);
-        match read {
+        match show_block(alloc, output, reader, gathering, &buffer[from..to]) {
             Ok(()) => {}
-            Err(unshown) => return Err(stop(input, buffer, left, unshown)),
+            Err(unsent) => return Err(stop(input, buffer, left, unsent)),
         }
         from = 0;
         to = match take_block(input, buffer, left) {
             Ok(count) => count,
-            Err(_) => return Err(Unshown::Unread(Unread::Input)),
+            Err(_) => return Err(Unsent::Unfed(Unfed::Input)),
         };
         if to == 0 {
-            return match lines.finish() {
+            return match reader.finish() {
                 Ok(()) => Ok(()),
-                Err(unread) => Err(Unshown::Unread(unread)),
+                Err(fault) => Err(Unsent::Unfed(Unfed::of(fault, RefusedLine::NoNewline))),
             };
         }
         left -= to;
     }
+}
+
+/// Which lines were taken behind this header.
+fn before_of(header: &Header, shown: &Shown) -> Before {
+    Before::behind(header, shown.entries(), shown.has_words())
 }
 
 /// Shows the transcript that the input holds, which is read up to its end: its entries, those of one use of a packet or
@@ -168,8 +194,7 @@ fn show_rest<R: Read, O: Out, T: Threads + Sync>(
 ///
 /// `Unread` where the input holds no transcript, or memory ran out: what stands for the lines before the one that is
 /// refused went out. `Unwritten` where the output failed, and no more is read: a beginning of that went out.
-pub fn show_transcript<R: Read, O: Out, T: Threads + Sync>(
-    rt: &T,
+pub fn show_transcript<R: Read, O: Out>(
     alloc: Global,
     input: &mut R,
     output: &mut O,
@@ -180,29 +205,35 @@ pub fn show_transcript<R: Read, O: Out, T: Threads + Sync>(
         (O.gone output.old) (O.gone output.new) (O.failures output.old) (O.failures output.new) }
 {
     let mut buffer = [0u8; BLOCK];
-    let mut lines = Lines::new(alloc);
-    let read = match read_header(alloc, input, &mut buffer, &mut lines) {
-        Ok(read) => read,
-        Err(unread) => return Err(Unshown::Unread(unread)),
+    let mut reader = Reader::new(alloc);
+    let start = match read_header(alloc, input, &mut buffer, &mut reader) {
+        Ok(Some(start)) => start,
+        Ok(None) => return Ok(()),
+        Err(unfed) => {
+            let unread = unread_behind(alloc, Before::nothing(), unfed);
+            return Err(Unshown::Unread(unread));
+        }
     };
-    let Some(start) = read else {
-        return Ok(());
+    let tells_seats = start.header.seats > 1;
+    let choice = Choice { only, tells_seats };
+    let mut gathering = Gathering {
+        wanted: Wanted { choice, span },
+        shown: Shown::new(alloc),
     };
-    let choice = Choice {
-        only,
-        tells_seats: start.header.seats > 1,
-    };
-    let wanted = Wanted { choice, span };
-    let mut shown = Shown::new(alloc);
-    show_rest(
-        rt,
+    match show_rest(
         alloc,
         input,
         output,
         &mut buffer,
-        &mut lines,
+        &mut reader,
         &start,
-        wanted,
-        &mut shown,
-    )
+        &mut gathering,
+    ) {
+        Ok(()) => Ok(()),
+        Err(Unsent::Unwritten(fault)) => Err(Unshown::Unwritten(fault)),
+        Err(Unsent::Unfed(unfed)) => {
+            let before = before_of(&start.header, &gathering.shown);
+            Err(Unshown::Unread(unread_behind(alloc, before, unfed)))
+        }
+    }
 }

@@ -9,9 +9,7 @@ mod drawing;
 mod ending;
 mod fields;
 mod help;
-mod input;
 mod judging;
-mod lines;
 mod listing;
 mod orders;
 mod parts;
@@ -26,7 +24,7 @@ mod words;
 
 ghost use Rattle.irp_view.specs.Program.{Answers, Obeys, streams_of, output_of};
 ghost use Rattle.irp_view.specs.Judging.{IsFound};
-ghost use Rattle.irp_view.specs.Reading.{TakesAtMost, most_taken};
+ghost use Rattle.irp_feed.specs.Input.{TakesAtMost, most_taken};
 ghost use Rattle.irp_view.specs.declared.orders.Order.TheVariants.{Read as AsksFor};
 ghost use Rattle.irp_view.specs.declared.orders.Task.TheVariants.{Why, List as Listing, Draw as Drawing};
 ghost use Rattle.irp_transcript.specs.Transcripts.{TranscriptValue};
@@ -44,7 +42,6 @@ use std::env;
 use std::fs::File;
 use std::io::{self, Read, Write};
 use std::process::ExitCode;
-use std::thread::Threads;
 
 /// Tells what is wrong with a transcript that was judged.
 fn tell_why<O: Out>(alloc: Global, output: &mut O, judged: &Judged) -> Ending
@@ -59,26 +56,20 @@ fn tell_why<O: Out>(alloc: Global, output: &mut O, judged: &Judged) -> Ending
 }
 
 /// Tells what is wrong with the transcript in the input, which is judged as it is read.
-fn judge<R: Read, O: Out, T: Threads + Sync>(
-    rt: &T,
-    alloc: Global,
-    input: &mut R,
-    output: &mut O,
-) -> Ending
+fn judge<R: Read, O: Out>(alloc: Global, input: &mut R, output: &mut O) -> Ending
     ensures took { TakesAtMost most_taken (R.remaining input.old) (R.remaining input.new) }
     ensures obeys { Obeys (AsksFor Why)
         (streams_of (R.remaining input.old) (output_of (O.gone output.old) (O.failures output.old)))
         (streams_of (R.remaining input.new) (output_of (O.gone output.new) (O.failures output.new))) result }
 {
-    match judge_input(rt, alloc, input, None) {
+    match judge_input(alloc, input, None) {
         Ok(judged) => tell_why(alloc, output, &judged),
         Err(unread) => Ending::from(unread),
     }
 }
 
 /// Shows the transcript in the input, as it is read.
-fn list<R: Read, O: Out, T: Threads + Sync>(
-    rt: &T,
+fn list<R: Read, O: Out>(
     alloc: Global,
     input: &mut R,
     output: &mut O,
@@ -90,15 +81,14 @@ fn list<R: Read, O: Out, T: Threads + Sync>(
         (streams_of (R.remaining input.old) (output_of (O.gone output.old) (O.failures output.old)))
         (streams_of (R.remaining input.new) (output_of (O.gone output.new) (O.failures output.new))) result }
 {
-    match show_transcript(rt, alloc, input, output, only, span) {
+    match show_transcript(alloc, input, output, only, span) {
         Ok(()) => Ending::Done,
         Err(unshown) => Ending::from(unshown),
     }
 }
 
 /// Draws a page, which has this title, of the transcript in the input, which is judged as it is read.
-fn draw_page<R: Read, O: Out, T: Threads + Sync>(
-    rt: &T,
+fn draw_page<R: Read, O: Out>(
     alloc: Global,
     input: &mut R,
     output: &mut O,
@@ -110,7 +100,7 @@ fn draw_page<R: Read, O: Out, T: Threads + Sync>(
         (streams_of (R.remaining input.old) (output_of (O.gone output.old) (O.failures output.old)))
         (streams_of (R.remaining input.new) (output_of (O.gone output.new) (O.failures output.new))) result }
 {
-    match judge_input(rt, alloc, input, Some(Draft::new(alloc, choice))) {
+    match judge_input(alloc, input, Some(Draft::new(alloc, choice))) {
         Ok(judged) => draw_judged(alloc, output, &judged, title),
         Err(unread) => Ending::from(unread),
     }
@@ -118,8 +108,7 @@ fn draw_page<R: Read, O: Out, T: Threads + Sync>(
 
 /// Does what is asked for: reads a transcript, which has this title, from the input, and writes to the output.
 #[tactic(auto, using(crate::proofs::Pieces::takes_none))]
-fn run<R: Read, O: Out, T: Threads + Sync>(
-    rt: &T,
+fn run<R: Read, O: Out>(
     alloc: Global,
     input: &mut R,
     output: &mut O,
@@ -136,9 +125,9 @@ fn run<R: Read, O: Out, T: Threads + Sync>(
         Order::Read(task) => task,
     };
     match task {
-        Task::Why => judge(rt, alloc, input, output),
-        Task::List { only, span } => list(rt, alloc, input, output, only, span),
-        Task::Draw(choice) => draw_page(rt, alloc, input, output, choice, title),
+        Task::Why => judge(alloc, input, output),
+        Task::List { only, span } => list(alloc, input, output, only, span),
+        Task::Draw(choice) => draw_page(alloc, input, output, choice, title),
     }
 }
 
@@ -155,26 +144,14 @@ fn no_file(alloc: Global, name: &str, kind: io::ErrorKind) -> Ending {
     }
 }
 
-/// Does what is asked for, with the file or with standard input. `threads` gives the leave to start threads.
-fn run_on<O: Out, T: Threads + Sync>(
-    rt: &HostRuntime,
-    threads: &T,
-    output: &mut O,
-    asked: Asked<'_>,
-) -> Ending {
+/// Does what is asked for, with the file or with standard input.
+fn run_on<O: Out>(rt: &HostRuntime, output: &mut O, asked: Asked<'_>) -> Ending {
     let Some(name) = asked.file else {
         let mut input = rt.stdin();
-        return run(
-            threads,
-            rt.alloc(),
-            &mut input,
-            output,
-            asked.order,
-            "a history",
-        );
+        return run(rt.alloc(), &mut input, output, asked.order, "a history");
     };
     match File::open(rt, name) {
-        Ok(mut file) => run(threads, rt.alloc(), &mut file, output, asked.order, name),
+        Ok(mut file) => run(rt.alloc(), &mut file, output, asked.order, name),
         Err(error) => no_file(rt.alloc(), name, error.kind()),
     }
 }
@@ -191,21 +168,21 @@ fn words_of(rt: &HostRuntime) -> Result<Vec<String>, Unasked> {
     Ok(words::with_uses(rt.alloc(), words.as_slice())?)
 }
 
-/// Does what the words ask for. `threads` gives the leave to start threads.
-fn obey<O: Out, T: Threads + Sync>(rt: &HostRuntime, threads: &T, output: &mut O) -> Ending {
+/// Does what the words ask for.
+fn obey<O: Out>(rt: &HostRuntime, output: &mut O) -> Ending {
     let words = match words_of(rt) {
         Ok(words) => words,
         Err(unasked) => return Ending::from(unasked),
     };
     match words::asked(rt.alloc(), words.as_slice()) {
-        Ok(asked) => run_on(rt, threads, output, asked),
+        Ok(asked) => run_on(rt, output, asked),
         Err(unasked) => Ending::from(unasked),
     }
 }
 
 fn main(rt: HostRuntime) -> ExitCode {
     let mut output = WriterOut::new(io::writer(&rt));
-    let mut ending = obey(&rt, &rt, &mut output);
+    let mut ending = obey(&rt, &mut output);
     if ending.has_line() && writeln!(rt.stderr(), "{ending}").is_err() {
         ending = Ending::Failed;
     }

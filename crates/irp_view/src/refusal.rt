@@ -3,11 +3,10 @@
 ghost use Rattle.std.specs.Prelude.{◌≡◌};
 ghost use Rattle.irp_view.specs.Refusals.{plain_text};
 
+use irp_feed::RefusedLine;
 use irp_line_faults::{Before as Bounds, misfit_of};
 use irp_transcript::{Form, Header};
-use irp_transcript_reader::MOST_BYTES;
 use irp_types::limits::MOST_ENTRIES;
-use memchr::memchr;
 use serde_json::Value;
 use std::alloc::Global;
 use std::fmt;
@@ -73,8 +72,28 @@ pub struct Before {
     pub words: bool,
 }
 
+impl Before {
+    /// Before the first line.
+    pub fn nothing() -> Before {
+        Before {
+            bounds: Bounds::Nothing,
+            entries: 0,
+            words: false,
+        }
+    }
+
+    /// Behind this header, and so many entries, with or without word lines.
+    pub fn behind(header: &Header, entries: usize, words: bool) -> Before {
+        Before {
+            bounds: bounds_of(header),
+            entries,
+            words,
+        }
+    }
+}
+
 /// What a header settles for the lines behind it.
-pub fn bounds_of(header: &Header) -> Bounds {
+fn bounds_of(header: &Header) -> Bounds {
     Bounds::Header {
         two: matches!(header.form, Form::Two { .. }),
         seats: header.seats,
@@ -109,21 +128,14 @@ fn value_of(alloc: Global, line: &[u8]) -> Result<Value, Expected> {
     }
 }
 
-/// What was expected of a line that begins like this and ends in this block, on condition that it is the first that is
-/// refused. `Newline` where it doesn't end in the block.
-pub fn expected_in(alloc: Global, before: Before, beginning: &[u8], block: &[u8]) -> Expected {
-    let Some(place) = memchr(b'\n', block) else {
-        return Expected::Newline;
+/// What was expected of this line, on condition that it is the first that is refused.
+pub fn expected_of(alloc: Global, before: Before, refused: RefusedLine) -> Expected {
+    let line = match refused {
+        RefusedLine::NoNewline => return Expected::Newline,
+        RefusedLine::TooLong => return Expected::Shorter,
+        RefusedLine::NotKept => return Expected::Fitting,
+        RefusedLine::Whole(line) => line,
     };
-    if beginning.len().saturating_add(place) > MOST_BYTES {
-        return Expected::Shorter;
-    }
-    let mut line = Vec::new(alloc);
-    if line.extend_from_slice(beginning).is_err()
-        || line.extend_from_slice(&block[..place]).is_err()
-    {
-        return Expected::Fitting;
-    }
     match value_of(alloc, line.as_slice()) {
         Ok(value) => expected_behind(alloc, before, line.as_slice(), &value),
         Err(expected) => expected,

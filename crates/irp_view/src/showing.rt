@@ -67,6 +67,16 @@ impl Shown {
         }
     }
 
+    /// How many entries there were.
+    pub fn entries(&self) -> usize {
+        self.entries
+    }
+
+    /// Whether there was a word line.
+    pub fn has_words(&self) -> bool {
+        !self.before_words
+    }
+
     /// Gathers what stands for the next entry, where it is wanted. The one error is want of memory.
     fn entry(&mut self, wanted: Wanted, entry: &Entry) -> Result<(), AllocError>
         ensures { (before : TranscriptValue) (sent : List ℕ)

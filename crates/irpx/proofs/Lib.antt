@@ -1,8 +1,7 @@
 pub mod Adding
 pub mod AtSlots
-pub mod Blocks
 pub mod CommandLine
-pub mod Faults
+pub mod Judged
 pub mod OneSeat
 pub mod Pieces
 pub mod Ran

@@ -3,17 +3,12 @@ use Rattle.std.proofs.Common.{◌≡◌, ℕ, ◌≤◌, List, [], ◌++◌, ◌
 use Rattle.std.proofs.lemmas.Grind.{common_steps}
 use Rattle.std.proofs.lemmas.List.{length-take-le, take_at}
 use Rattle.std.specs.Io.KnownBytes.{Consumes, IsAtEnd, Keeps}
+use Rattle.irp_feed.proofs.Pieces.{reads_on}
 use Rattle.irpx.specs.Streams.{IsQuiet, Output, TakesAtMost}
 
 pub reads_none : (old : Option (List ℕ)) → Consumes old old []
 reads_none None = tt
 reads_none (Some xs) = refl
-
-pub reads_on : (t u : List ℕ) (old mid new : Option (List ℕ)) → Consumes old mid t → Consumes mid new u → Consumes old new (t ++ u)
-reads_on t u None mid new h k = tt
-reads_on t u (Some xs) None new h k = absurd h
-reads_on t u (Some xs) (Some ys) None h k = absurd k
-reads_on t u (Some xs) (Some ys) (Some zs) h k = h ∙ ap (λ s. t ++ s) k ∙ sym (append_assoc t u zs)
 
 pub reads_full : (t : List ℕ) (n : ℕ) (old new : Option (List ℕ)) → length t ≡ n → Consumes old new t → IfSome old (λ xs. t ≡ take n xs)
 reads_full t n None new e h = tt

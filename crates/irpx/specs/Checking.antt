@@ -1,52 +1,22 @@
 -- What checking a transcript tells.
-use Rattle.std.specs.Prelude.{
-  ℕ,
-  ◌≡◌,
-  ◌≤◌,
-  ◌⊎◌,
-  List,
-  ◌∷◌,
-  [],
-  ◌++◌,
-  length,
-  codes,
-  IfSome,
-  Result,
-  Ok,
-  Err,
-}
+use Rattle.std.specs.Prelude.{ℕ, ◌≡◌, ◌⊎◌, List, ◌∷◌, [], ◌++◌, codes, Result, Ok, Err}
 use Rattle.std.specs.Fmt.{decimal}
-use Rattle.std.specs.Io.KnownBytes.{Consumes}
 use Rattle.irp_transcript.specs.Transcripts.{TranscriptValue, no_lines}
 use Rattle.irp_transcript_reader.specs.Reading.{ReadsFrom, cut}
-use Rattle.irp_transcript_reader.specs.declared.read_fault.ReadFault.TheVariants as fault
 use Rattle.irp_judge.specs.Checked.{IsVerdictOn}
 use Rattle.irp_judge.specs.declared.verdict.Verdict.{Verdict}
 use Rattle.irp_judge.specs.declared.verdict.Verdict.TheVariants as verdict
+use Rattle.irp_feed.specs.Input.{IsInput, IsRefused}
 use Rattle.irpx.specs.Streams.{Bytes, IsQuiet, IsReadingFault, Output, Streams}
 use Rattle.irpx.specs.Writing.{BreaksOff, Written}
 use Rattle.irpx.specs.declared.not_done.NotDone.{NotDone}
 use Rattle.irpx.specs.declared.not_done.NotDone.TheVariants.{NoMemory, Output as Failed, RefusedLine}
-use Rattle.irpx.specs.declared.not_done.Phase.TheVariants.{Reading, Writing}
-
--- as many bytes as the text of a transcript may have that is checked
-abbrev pub most_bytes : ℕ
-most_bytes = 1073741824
-
--- as many bytes as may be taken of the input, since one too many shows that it is too long
-abbrev pub most_taken : ℕ
-most_taken = 1073741825
+use Rattle.irpx.specs.declared.not_done.Phase.TheVariants.{Writing}
 
 -- the line that tells a verdict
 abbrev pub verdict_line : Verdict → List ℕ
 verdict_line (verdict.Legal entries) = codes "legal " ++ (decimal entries ++ 10 ∷ [])
 verdict_line (verdict.Illegal at) = codes "illegal " ++ (decimal at ++ 10 ∷ [])
-
--- this text, which isn't too long, is what was left of the input, where that is known, and it was taken
-pub record IsInput (old new : Bytes) (text : List ℕ) : Type 0 where
-  pub few : length text ≤ most_bytes
-  pub whole : IfSome old (λ left. text ≡ left)
-  pub took : Consumes old new text
 
 -- the text is a transcript's, and this is the verdict on it
 pub record Judges (text : List ℕ) (verdict : Verdict) : Type 0 where
@@ -57,15 +27,6 @@ pub record Judges (text : List ℕ) (verdict : Verdict) : Type 0 where
 -- the input holds a transcript, and this is the verdict on it
 abbrev pub HasVerdict : Bytes → Bytes → Verdict → Type 0
 HasVerdict old new verdict = (text : List ℕ) × IsInput old new text × Judges text verdict
-
--- this line is the first of the text that is refused
-abbrev pub IsRefused : List ℕ → ℕ → Type 0
-IsRefused text line = ReadsFrom no_lines 0 (Err (fault.Line line)) (cut text)
-
--- why a text has no verdict: its first line that is refused, or want of memory
-abbrev pub Unjudgeable : List ℕ → NotDone → Type 0
-Unjudgeable text fault =
-    (fault ≡ NoMemory Reading) ⊎ ((line : ℕ) × (fault ≡ RefusedLine line) × IsRefused text line)
 
 -- why the input has no verdict: it isn't had; or the first line that is refused of the text that it holds
 abbrev pub NotRead : Bytes → Bytes → NotDone → Type 0

@@ -3,7 +3,7 @@ use Rattle.std.specs.Prelude.{ℕ, List, ◌++◌, codes, Option, Some, None, Re
 use Rattle.std.specs.Fmt.{decimal}
 use Rattle.irp_judge.specs.declared.verdict.Verdict.{Verdict}
 use Rattle.irp_judge.specs.declared.verdict.Verdict.TheVariants as verdict
-use Rattle.irp_fitting.specs.Fitting.{name_of}
+use Rattle.irp_fast_reader.specs.Fitting.{name_of}
 use Rattle.irpx.specs.declared.ending.Ending.{Ending}
 use Rattle.irpx.specs.declared.ending.Ending.TheVariants.{Done, Illegal, Faulty}
 use Rattle.irpx.specs.declared.not_done.NotDone.{NotDone}

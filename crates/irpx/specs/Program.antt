@@ -1,7 +1,8 @@
 -- What the program does for its words.
 use Rattle.std.specs.Prelude.{◌≡◌, Result, Ok, Err}
 use Rattle.irp_judge.specs.declared.verdict.Verdict.{Verdict}
-use Rattle.irpx.specs.Checking.{Checks, most_taken as most_checked}
+use Rattle.irp_feed.specs.Input.{most_taken as most_checked}
+use Rattle.irpx.specs.Checking.{Checks}
 use Rattle.irpx.specs.Demo.{AfterDemo}
 use Rattle.irpx.specs.Ending.{done, ending_of, of_verdict}
 use Rattle.irpx.specs.Running.{AfterRun, most_taken as most_run}

@@ -1,36 +1,36 @@
 //! The word `check`: the verdict on a transcript is written.
 
 ghost use Rattle.std.specs.Prelude.{IfErr, IfOk, OnOk, ◌≡◌};
-ghost use Rattle.irpx.specs.Checking.{Checks, Told, Untold, most_taken, verdict_line};
+ghost use Rattle.irp_feed.specs.Input.{most_taken};
+ghost use Rattle.irpx.specs.Checking.{Checks, Told, Untold, verdict_line};
 ghost use Rattle.irpx.specs.Judging.{Ends};
 ghost use Rattle.irpx.specs.Streams.{TakesAtMost, output_of, streams_of};
 
-use crate::input::BLOCK;
-use crate::judging::{judge_rest, read_header};
+use crate::judging::{Judging, refusal};
 use crate::not_done::{NotDone, Phase};
 use irp_fast_reader::Reader;
-use irp_judge::Verdict;
+use irp_feed::{BLOCK, feed_rest, read_header};
+use irp_judge::{Judge, Verdict};
 use irp_transcript_writer::{Out, put_all};
 use std::alloc::{AllocError, Global};
 use std::io::Read;
-use std::thread::Threads;
-
-/// As many bytes as the text of a transcript may have that is checked.
-pub const MOST_BYTES: usize = 1_073_741_824;
 
 /// The verdict on the transcript that the input holds. The fault where there is none.
-fn judged<R: Read, T: Threads + Sync>(
-    rt: &T,
-    alloc: Global,
-    input: &mut R,
-) -> Result<Verdict, NotDone>
+fn judged<R: Read>(alloc: Global, input: &mut R) -> Result<Verdict, NotDone>
     ensures { Ends (R.remaining input.old) (R.remaining input.new) result }
 {
     let mut buffer = [0u8; BLOCK];
     let mut reader = Reader::new(alloc);
-    match read_header(alloc, input, &mut buffer, &mut reader)? {
-        Some(start) => judge_rest(rt, alloc, input, &mut buffer, &mut reader, &start),
-        None => Ok(Verdict::Legal { entries: 0 }),
+    let start = match read_header(alloc, input, &mut buffer, &mut reader) {
+        Ok(Some(start)) => start,
+        Ok(None) => return Ok(Verdict::Legal { entries: 0 }),
+        Err(unfed) => return Err(refusal(unfed)),
+    };
+    let judge = Judge::new(alloc, &start.header);
+    let mut judging = Judging { judge };
+    match feed_rest(alloc, input, &mut buffer, &mut reader, &start, &mut judging) {
+        Ok(()) => Ok(judging.judge.verdict()),
+        Err(unfed) => Err(refusal(unfed)),
     }
 }
 
@@ -74,8 +74,7 @@ fn tell<O: Out>(alloc: Global, output: &mut O, verdict: Verdict) -> Result<(), N
 /// 1,073,741,824 bytes; `NoMemory` of `Reading` where memory ran out before that line. Where there is one: `Output`
 /// where the output failed, which its count of failures tells, after a beginning of the line; `NoMemory` of `Writing`
 /// before anything goes out.
-pub fn check<R: Read, O: Out, T: Threads + Sync>(
-    rt: &T,
+pub fn check<R: Read, O: Out>(
     alloc: Global,
     input: &mut R,
     output: &mut O,
@@ -84,7 +83,7 @@ pub fn check<R: Read, O: Out, T: Threads + Sync>(
         (streams_of (R.remaining input.new) (O.gone output.new) (O.failures output.new)) result }
     ensures took { TakesAtMost most_taken (R.remaining input.old) (R.remaining input.new) }
 {
-    let verdict = judged(rt, alloc, input)?;
+    let verdict = judged(alloc, input)?;
     tell(alloc, output, verdict)?;
     Ok(verdict)
 }

@@ -78,7 +78,7 @@ fn obey<R: Read, O: Out, T: Threads + Wait + Sync>(
         Ok(Order::Run { workers }) => {
             Ending::of(running::run(rt, alloc, input, output, workers))
         }
-        Ok(Order::Check) => Ending::of_check(checking::check(rt, alloc, input, output)),
+        Ok(Order::Check) => Ending::of_check(checking::check(alloc, input, output)),
         Err(fault) => Ending::Faulty(fault),
     }
 }

@@ -3,7 +3,7 @@
 ghost use Rattle.std.specs.Prelude.{◌≡◌};
 ghost use Rattle.irpx.specs.Ending.{fault_status};
 
-use irp_fitting::Unfit;
+use irp_fast_reader::Unfit;
 use irp_script::Stop;
 use irp_script_reader::{MemberFault, ScriptRefusal, Section};
 use std::fmt;

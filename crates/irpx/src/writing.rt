@@ -5,7 +5,7 @@ ghost use Rattle.irpx.specs.Streams.{output_of};
 ghost use Rattle.irpx.specs.Writing.{Prints, StopsShort};
 
 use crate::not_done::{NotDone, Phase};
-use irp_fitting::{Unwritten, write_fitting};
+use irp_fast_reader::{Unwritten, write_fitting};
 use irp_shared::Transcript;
 use irp_transcript_writer::Out;
 use std::alloc::Global;

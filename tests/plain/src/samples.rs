@@ -2,7 +2,7 @@
 
 use crate::done::Done;
 use crate::judge::{Judge, Verdict};
-use crate::texts::{check, check_ahead, read_transcript};
+use crate::texts::{check, read_transcript};
 use crate::types::{Entry, Header};
 use crate::works::{do_work, Batch, By, Work};
 use crate::writer::write_transcript;
@@ -23,8 +23,8 @@ pub enum Task {
     Read,
     /// The transcript is judged.
     Judge,
-    /// The text is read and judged, with so many threads that read.
-    Check { threads: usize },
+    /// The text is read and judged.
+    Check,
 }
 
 /// A transcript and its text.
@@ -90,11 +90,8 @@ fn time(task: Task, sample: &Sample) -> Duration {
             assert!(judge.verdict() == Verdict::Legal(entries.len() as u64));
             start.elapsed()
         }
-        Task::Check { threads } => {
-            let verdict = match threads {
-                1 => check(&mut text.as_slice()).expect("a text in memory can be read"),
-                _ => check_ahead(text, threads),
-            };
+        Task::Check => {
+            let verdict = check(&mut text.as_slice()).expect("a text in memory can be read");
             assert!(verdict == Verdict::Legal(entries.len() as u64));
             start.elapsed()
         }

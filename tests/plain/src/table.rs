@@ -29,9 +29,6 @@ const RECORDED_PACKETS: u32 = 500;
 /// How often each of them is sent.
 const SENDS: u32 = 40;
 
-/// How many entries the text has that is read and judged in blocks.
-const ENTRIES: u32 = 1_000_000;
-
 /// The least part of a count. A text has a multiple of four entries.
 const LEAST: u32 = 40;
 
@@ -61,7 +58,6 @@ enum Load {
     Unused(Who),
     Sends(Who),
     Text(Task),
-    Blocks,
 }
 
 /// What a word asks for: a load with its name, and perhaps another that is timed beside it, for each of some numbers.
@@ -154,10 +150,10 @@ static TABLE: [Row; 12] = [
     },
     Row {
         word: "check",
-        name: "read and judged in blocks, threads",
-        load: Load::Blocks,
+        name: "read and judged in blocks, entries",
+        load: Load::Text(Task::Check),
         beside: None,
-        numbers: &[1, 2, 4],
+        numbers: &[1_000_000],
     },
 ];
 
@@ -234,17 +230,12 @@ fn run(load: Load, number: u32, amount: Amount, sample: Option<&Sample>) -> Done
             time_work(&sends(number, packets, batches, by(who, 1)), 1)
         }
         Load::Text(task) => perform(task, sample.expect("a text's load has a sample")),
-        Load::Blocks => {
-            let threads = number as usize;
-            perform(Task::Check { threads }, sample.expect("so has this one"))
-        }
     }
 }
 
 /// The transcript that a row wants for a number.
 fn sample_for(row: &Row, number: u32, amount: Amount) -> Option<Sample> {
     let entries = match row.load {
-        Load::Blocks => ENTRIES,
         Load::Text(_) => number,
         _ => return None,
     };

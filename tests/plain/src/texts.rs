@@ -1,16 +1,11 @@
 //! Transcripts that are read whole, and that are judged piece by piece.
 
 use crate::judge::{blank_entry, Judge, Line, Reader, Verdict};
-use crate::reader::read_entry;
 use crate::types::{Entry, Header};
 use std::io::{self, Read};
-use std::thread;
 
 /// How many bytes are read at once.
 const PIECE: usize = 262_144;
-
-/// How many lines are read ahead at once.
-const BLOCK_LINES: usize = 8_192;
 
 /// The header and the entries of a text; none where a line is refused, or the text has no line.
 pub fn read_transcript(text: &[u8]) -> Option<(Header, Vec<Entry>)> {
@@ -66,60 +61,12 @@ impl Checker {
         Some(read)
     }
 
-    /// Judges lines behind the header whose entries were read already. None where one is refused.
-    fn read_lines(&mut self, lines: &[&[u8]], entries: &[Option<Entry>]) -> Option<()> {
-        for (line, entry) in lines.iter().zip(entries) {
-            self.lines += 1;
-            self.reader.place(line, entry.as_ref())?;
-            if let (Some(entry), Some(judge)) = (entry, &mut self.judge) {
-                judge.feed(entry);
-            }
-        }
-        Some(())
-    }
-
     fn verdict(&self) -> Verdict {
         match &self.judge {
             Some(judge) => judge.verdict(),
             None => Verdict::Legal(0),
         }
     }
-}
-
-/// The entries of these lines, each in its place.
-fn entries_of(lines: &[&[u8]], is_form_2: bool) -> Vec<Option<Entry>> {
-    let read = |line: &&[u8]| {
-        let mut entry = blank_entry();
-        read_entry(line, is_form_2, &mut entry).map(|()| entry)
-    };
-    lines.iter().map(read).collect()
-}
-
-/// The verdict on a text of form 2 that has a header and whole lines, whose lines so many threads read ahead, block by
-/// block.
-pub fn check_ahead(text: &[u8], threads: usize) -> Verdict {
-    let mut lines: Vec<&[u8]> = text.split(|byte| *byte == b'\n').collect();
-    lines.pop();
-    let mut checker = Checker::new();
-    if checker.line(lines[0]).is_none() {
-        return Verdict::Refused(1);
-    }
-    for block in lines[1..].chunks(BLOCK_LINES) {
-        let parts: Vec<&[&[u8]]> = block.chunks(block.len().div_ceil(threads)).collect();
-        let read: Vec<_> = thread::scope(|scope| {
-            let begin = |part| scope.spawn(move || entries_of(part, true));
-            let readers: Vec<_> = parts.iter().map(|part| begin(*part)).collect();
-            let ended = readers
-                .into_iter()
-                .map(|it| it.join().expect("no thread fails"));
-            ended.collect()
-        });
-        let mut parts = parts.iter().zip(&read);
-        if !parts.all(|(part, entries)| checker.read_lines(part, entries).is_some()) {
-            return Verdict::Refused(checker.lines);
-        }
-    }
-    checker.verdict()
 }
 
 /// The verdict on a text.

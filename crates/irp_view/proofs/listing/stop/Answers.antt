@@ -1,16 +1,17 @@
 -- The rest was taken, or the output failed.
 use Rattle.std.proofs.Common.{Err, subst}
+use Rattle.irp_feed.specs.Feeding.{refused_line}
 use Rattle.irp_view.specs.Listed.{ShowsBlock}
-use Rattle.irp_view.specs.declared.listing.Unshown.{Unshown}
+use Rattle.irp_view.specs.declared.listing.Unsent.{Unsent}
 use Rattle.irp_view.proofs.Listed.{broken_shown, refused_shown}
 use Rattle.irp_view.proofs.listing.stop.Goals as goal
 
-pub returns-in-Unread : goal.returns-in-Unread
-returns-in-Unread g c = λ start text reader only span shown old new before after so_far block.
-    (let read = subst (λ (given : Unshown). ShowsBlock (Err given) reader only span shown old new before after text) c.in-Unread.is block in
-    refused_shown c.in-Unread.unread c.refuse.result only span start (g.R.Read.remaining c.refuse.new.input) old new before after text c.refuse.ensures.before (c.refuse.ensures.fails start text so_far read.0) read.1)
+pub returns-in-Unfed : goal.returns-in-Unfed
+returns-in-Unfed g c = λ start text reader only span gathering old new before after so_far block.
+    (let read = subst (λ (given : Unsent). ShowsBlock (Err given) reader only span gathering old new before after text) c.in-Unfed.is block in
+    refused_shown (refused_line c.in-Unfed.unfed) (refused_line c.refuse.result) only span start (g.R.Read.remaining c.refuse.new.input) old new before after text c.refuse.ensures.before (c.refuse.ensures.fails start text so_far read.0) read.1)
 
 pub returns-in-Unwritten : goal.returns-in-Unwritten
-returns-in-Unwritten g c = λ start text reader only span shown old new before after so_far block.
-    (let read = subst (λ (given : Unshown). ShowsBlock (Err given) reader only span shown old new before after text) c.in-Unwritten.is block in
+returns-in-Unwritten g c = λ start text reader only span gathering old new before after so_far block.
+    (let read = subst (λ (given : Unsent). ShowsBlock (Err given) reader only span gathering old new before after text) c.in-Unwritten.is block in
     broken_shown c.in-Unwritten.fault only span start (g.R.Read.remaining c.args.input.now) c.args.left old new before after text so_far read)

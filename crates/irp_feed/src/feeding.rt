@@ -1,0 +1,119 @@
+//! The lines behind the header of a text.
+
+ghost use Rattle.std.specs.Prelude.{ℕ, ◌<◌, ◌≤◌, ◌+◌, List, ◌++◌, length};
+ghost use Rattle.irp_fast_reader.specs.declared.line.Line.TheVariants.{Header as HeaderLine};
+ghost use Rattle.irp_fast_reader.specs.Fed.{with_line};
+ghost use Rattle.irp_transcript.specs.Transcripts.{no_lines};
+ghost use Rattle.irp_feed.specs.Input.{Bytes, most_bytes};
+ghost use Rattle.irp_feed.specs.Feeding.{AreAllBefore, AreTaken, FailsBehind, FeedsBlock, FeedsRest, IsHopeless, IsSoFar, Starts, refused_line};
+
+use crate::header::Start;
+use crate::input::{drain, take_block};
+use crate::sink::LineSink;
+use crate::unfed::{RefusedLine, Unfed, refused_in};
+use irp_fast_reader::Reader;
+use std::alloc::Global;
+use std::io::Read;
+
+/// What the line is that a reader refused in a block, where so many bytes of it stood before the block.
+pub fn refused_next(alloc: Global, reader: &Reader, begun: usize, block: &[u8]) -> RefusedLine {
+    let beginning = reader.begun().get(..begun).unwrap_or(&[]);
+    refused_in(alloc, beginning, block)
+}
+
+/// Takes the rest of an input whose text isn't read to its end, and tells why it isn't: that the input failed, where the
+/// rest can't be taken or is too long.
+pub fn refuse<R: Read>(input: &mut R, buffer: &mut [u8], left: usize, unfed: Unfed) -> Unfed
+    requires few { left ≤ most_bytes }
+    requires room { 0 < length buffer.old }
+    ensures fails { (old : Bytes) (text : List ℕ) → IsSoFar old (R.remaining input.old) left text
+        → IsHopeless (refused_line unfed) text
+        → FailsBehind text old (R.remaining input.new) (refused_line result) }
+    ensures before { (count : ℕ) → AreAllBefore (refused_line unfed) count
+        → AreAllBefore (refused_line result) count }
+{
+    match drain(input, buffer, left) {
+        Ok(has_newline) => unfed.behind(has_newline),
+        Err(_) => Unfed::Input,
+    }
+}
+
+/// Reads the lines that end in a block, behind the header of a text, and gives each to the sink.
+///
+/// # Errors
+///
+/// `Refused` where a line is refused, whatever follows the block; `NoMemory` where memory ran out for reading a line. The
+/// sink has taken the lines before that one. `NotTaken` where memory ran out for the sink.
+pub fn feed_block<S: LineSink>(
+    alloc: Global,
+    reader: &mut Reader,
+    sink: &mut S,
+    block: &[u8],
+) -> Result<(), Unfed>
+    ensures { (fixed : S.Fixed) (text : List ℕ) → AreTaken S.has_taken reader.old sink.old fixed text
+        → length text + length block.now ≤ most_bytes
+        → FeedsBlock S.has_taken result reader.new sink.new fixed (text ++ block.now) }
+{
+    let begun = reader.begun().len();
+    let mut rest = block;
+    while !rest.is_empty() {
+        let (line, count) = match reader.next(alloc, rest) {
+            Ok(Some(taken)) => taken,
+            Ok(None) => return Ok(()),
+            Err(fault) => {
+                let refused = refused_next(alloc, reader, begun, rest);
+                return Err(Unfed::of(fault, refused));
+            }
+        };
+        match sink.take(line) {
+            Ok(()) => {}
+            Err(_) => return Err(Unfed::NotTaken),
+        }
+        rest = &rest[count..];
+    }
+    Ok(())
+}
+
+/// Reads what follows the header of a text, up to the end of the input, and gives each line to the sink.
+///
+/// # Errors
+///
+/// `Refused` with the number of the first line that is refused; `Input` where the input failed, or has more than
+/// 1,073,741,824 bytes; `NoMemory` and `NotTaken` where memory ran out. The input was taken to its end, unless it failed,
+/// and at most 1,073,741,825 bytes of it.
+pub fn feed_rest<R: Read, S: LineSink>(
+    alloc: Global,
+    input: &mut R,
+    buffer: &mut [u8],
+    reader: &mut Reader,
+    start: &Start,
+    sink: &mut S,
+) -> Result<(), Unfed>
+    requires room { 0 < length buffer.old }
+    requires order { start.now.from ≤ start.now.to }
+    requires within { start.now.to ≤ length buffer.old }
+    requires few { start.now.left ≤ most_bytes }
+    ensures { (old : Bytes) (fixed : S.Fixed)
+        → Starts old (R.remaining input.old) start.now reader.old buffer.old
+        → S.has_taken sink.old fixed (with_line no_lines (HeaderLine start.now.header))
+        → FeedsRest S.has_taken result old (R.remaining input.new) sink.new fixed }
+{
+    let (mut from, mut to, mut left) = (start.from, start.to, start.left);
+    loop {
+        if let Err(unfed) = feed_block(alloc, reader, sink, &buffer[from..to]) {
+            return Err(refuse(input, buffer, left, unfed));
+        }
+        from = 0;
+        to = match take_block(input, buffer, left) {
+            Ok(count) => count,
+            Err(_) => return Err(Unfed::Input),
+        };
+        if to == 0 {
+            return match reader.finish() {
+                Ok(()) => Ok(()),
+                Err(fault) => Err(Unfed::of(fault, RefusedLine::NoNewline)),
+            };
+        }
+        left -= to;
+    }
+}

@@ -1,2 +1,0 @@
-pub mod Going
-pub mod Whole

@@ -1,0 +1,7 @@
+use Rattle.std.proofs.Common.{◌≡◌, drop, map}
+use Rattle.irp_names.specs.Rows.{numbered}
+use Rattle.irp_names.proofs.rows.number_among.Given as goal
+
+abbrev pub invariant-loop-row : goal.invariant-loop-row
+invariant-loop-row l =
+    numbered (map (λ row. (row.0, row.1.now)) l.rows) l.name ≡ numbered (map (λ row. (row.0, row.1.now)) (drop l.row-index l.rows)) l.name

@@ -1,0 +1,82 @@
+-- Steps by their words, and the calls that they make.
+use Rattle.std.specs.Prelude.{ℕ, get_or, List, [], map, Option}
+use Rattle.std.specs.List.{find}
+use Rattle.std.specs.Option.{option_map}
+use Rattle.std.proofs.Common.{bytes_eq}
+use Rattle.irp_types.specs.Calls.{Call}
+use Rattle.irp_types.specs.declared.call.Call.TheVariants as call
+use Rattle.irp_names.specs.declared.step_names.Act.{Act}
+use Rattle.irp_names.specs.declared.step_names.Act.TheVariants as act
+use Rattle.irp_names.specs.declared.step_names.TheConstants.{ACTS}
+
+-- what the first row with this word has
+abbrev pub under : List ℕ → List (List ℕ × Act) → Option Act
+under word rows = option_map (λ row. row.1) (find (λ row. bytes_eq word row.0) rows)
+
+-- each step under its word; the routine of Windows that each stands for
+unfoldable pub act_rows : List (List ℕ × Act)
+act_rows = map (λ form. (form.1.now, form.0)) ACTS
+
+unfoldable pub windows_names : List (List ℕ)
+windows_names = map (λ form. form.2.now) ACTS
+
+-- the place of a step's row
+abbrev pub act_place : Act → ℕ
+act_place act.CreateDevice = 0
+act_place act.Attach = 1
+act_place act.Detach = 2
+act_place act.Delete = 3
+act_place act.Allocate = 4
+act_place act.Free = 5
+act_place act.Cancel = 6
+act_place act.Look = 7
+act_place act.Reuse = 8
+act_place act.SetNext = 9
+act_place act.CopyToNext = 10
+act_place act.Skip = 11
+act_place act.MarkPending = 12
+act_place act.SetRoutine = 13
+act_place act.CallDriver = 14
+act_place act.Complete = 15
+act_place act.SetCancelRoutine = 16
+act_place act.Acquire = 17
+act_place act.Release = 18
+act_place act.BeginRemove = 19
+act_place act.Drained = 20
+act_place act.Hand = 21
+act_place act.Publish = 22
+act_place act.Withdraw = 23
+act_place act.Request = 24
+act_place act.FinishTaken = 25
+
+-- the word of a step, and its name in Windows
+unfoldable pub act_word : Act → List ℕ
+act_word one = get_or (map (λ row. row.0) act_rows) (act_place one) []
+
+unfoldable pub windows_name : Act → List ℕ
+windows_name one = get_or windows_names (act_place one) []
+
+-- the step that a word names
+unfoldable pub act_named : List ℕ → Option Act
+act_named word = under word act_rows
+
+-- the step that makes a call
+abbrev pub act_of : Call → Act
+act_of (call.CreateDevice driver lock) = act.CreateDevice
+act_of (call.Attach device to) = act.Attach
+act_of (call.Detach lower) = act.Detach
+act_of (call.Delete device) = act.Delete
+act_of (call.Allocate size) = act.Allocate
+act_of (call.Free irp) = act.Free
+act_of (call.Cancel irp) = act.Cancel
+act_of (call.Look irp) = act.Look
+act_of (call.Reuse irp status) = act.Reuse
+act_of (call.SetNext party irp major word) = act.SetNext
+act_of (call.CopyToNext party irp) = act.CopyToNext
+act_of (call.Skip party irp) = act.Skip
+act_of (call.MarkPending party irp) = act.MarkPending
+act_of (call.SetRoutine party irp setting) = act.SetRoutine
+act_of (call.CallDriver party irp target) = act.CallDriver
+act_of (call.Complete party irp status information) = act.Complete
+act_of (call.SetCancelRoutine party irp cancel) = act.SetCancelRoutine
+act_of (call.FinishTaken irp token status information) = act.FinishTaken
