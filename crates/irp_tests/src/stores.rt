@@ -122,12 +122,12 @@ fn add(
     store: &mut Store,
     item: Item,
     row: Asked,
-    number: u32,
+    number: usize,
     tried: &mut Tried,
 ) -> Result<(), Halt> {
     let before = extent_of(store.tables());
     let back = match put(store, item) {
-        Ok(given) => return wanted(given == number, "an item has another number"),
+        Ok(given) => return wanted(given as usize == number, "an item has another number"),
         Err(back) => back,
     };
     let are_back = match (&back.item, row) {
@@ -136,7 +136,7 @@ fn add(
     };
     let is_same = back.reason == Reason::Memory && extent_of(store.tables()) == before;
     let noted = tried.refused(back.name, is_same && are_back);
-    let is_there = matches!(put(store, back.item), Ok(given) if given == number);
+    let is_there = matches!(put(store, back.item), Ok(given) if given as usize == number);
     noted.and(wanted(
         is_there,
         "a call was refused twice, or gives another number",
@@ -145,7 +145,7 @@ fn add(
 
 /// The row of this place, where the rows come again and again, and the number that it gets: its own, and one more for
 /// each round. None where there are no rows.
-fn row_at(rows: &[Asked], place: usize) -> Option<(Asked, u32)> {
+fn row_at(rows: &[Asked], place: usize) -> Option<(Asked, usize)> {
     if rows.is_empty() {
         return None;
     }
@@ -156,7 +156,7 @@ fn row_at(rows: &[Asked], place: usize) -> Option<(Asked, u32)> {
         Asked::Dispatch(own, ..) => own,
         Asked::Driver(own, _) => own,
     };
-    Some((row, own.wrapping_add((place / rows.len()) as u32)))
+    Some((row, (own as usize).wrapping_add(place / rows.len())))
 }
 
 /// Adds so many closures and drivers to a store, by these rows. Then it plays the example in a session of the store, if
