@@ -157,6 +157,7 @@ typedef struct {
 struct Packet {
     PIRP irp;
     int size, current, owner, last, allocator; /* allocator: a driver, or NOBODY */
+    int most; /* how many locations its memory has */
     unsigned long moved; /* host_activity when it was called for last, or somebody was asked about it */
     unsigned slot;
     uint64_t use, information;
@@ -193,6 +194,8 @@ struct Packet {
     uint64_t name; /* by the thread that allocated it, and how many that had allocated before */
     UCHAR major;   /* what was sent to the first device */
     CHAR stack_count;         /* what the packet says of itself */
+    Packet *older;            /* initialized.c: what was initialized before it there, or near */
+    const Frame *lies_with;   /* on the stack of which frame it was initialized, or NULL */
     IO_STACK_LOCATION *above; /* the locations of the devices above, as they left them; `left` has a bit for each */
     uint64_t left;
     Location at[MAX_SIZE + 2];
@@ -357,6 +360,9 @@ PIO_STACK_LOCATION raw_at(Packet *p, int j);
 Packet *find(PIRP irp);
 Packet *new_packet(int size, PIRP irp);
 bool lives(const Packet *p);
+void begin_use(Packet *p, NTSTATUS status);
+void use_again(Packet *p, NTSTATUS status);
+void free_now(Packet *p);
 Frame *on_top(const Packet *p);
 int party(const Packet *p);
 int party_with_location(const Packet *p);
@@ -396,6 +402,7 @@ NTSTATUS forward_in_place(Packet *p, int device);
 
 /* traps.c, remove_locks.c */
 void open_traps(void);
+bool is_in_page(const void *address);
 void protect(Packet *p);
 void shut(Packet *p);
 void unprotect(Packet *p);

@@ -46,9 +46,17 @@ int driver_of_file(const char *file);
 /* reached.c */
 void tell_unreached(FILE *out);
 
+/* initialized.c */
+Packet *initialized_at(const void *at);
+const void *initialized_around(const void *address);
+bool packets_go(const void *from, size_t size);
+void stack_goes(const Frame *f);
+void free_initialized(Packet *p, WDM_SITE at);
+
 /* own_memory.c, stack_blocks.c */
 void remember_blocks(Packet *p);
 void check_blocks(const Frame *f);
+const Frame *frame_around(const void *at);
 void remember_event(const void *event);
 bool is_over_event(const void *event);
 int device_number(const DEVICE_OBJECT *device);

@@ -28,12 +28,20 @@ static int called_driver(const void *at)
     return NOBODY;
 }
 
+/* Whether the address lies where packets of IoAllocateIrp have their pages. */
+bool is_in_page(const void *address)
+{
+    return arena && (const char *)address >= arena && (const char *)address < arena + (size_t)MAX_PACKETS * PAGE;
+}
+
 static void touched(int signal_number, siginfo_t *info, void *context)
 {
     const size_t i = (size_t)((char *)info->si_addr - arena) / PAGE;
     if (touched_block(info->si_addr))
         return;
-    Packet *p = (char *)info->si_addr < arena || i >= MAX_PACKETS ? NULL : packets[i];
+    Packet *p = is_in_page(info->si_addr) ? packets[i] : NULL;
+    if (p && p->irp != (PIRP)(arena + i * PAGE))
+        p = NULL; /* that page isn't used */
     const bool was_watched = p && unwatch(p);
     const bool others_open_it = p && !was_watched && !__atomic_load_n(&p->shut, __ATOMIC_SEQ_CST);
     if (others_open_it || (was_watched && (!is_watcher(p) || is_code_of_holder(p, toucher_of(context))))) {
@@ -80,12 +88,12 @@ static bool lets_go(const char *call)
 /* The shadow of a packet; that of a rider, where one stands in its memory. */
 Packet *find(PIRP irp)
 {
-    const size_t i = (size_t)((char *)irp - arena) / PAGE;
-    if (!arena || (char *)irp < arena || i >= (size_t)n_packets || ((char *)irp - arena) % PAGE)
-        give_up("a pointer that is no packet of IoAllocateIrp is handed to a call");
+    const size_t i = is_in_page(irp) ? (size_t)((char *)irp - arena) / PAGE : MAX_PACKETS;
+    Packet *p = i < (size_t)n_packets && packets[i]->irp == irp ? packets[i] : initialized_at(irp);
+    if (!p)
+        give_up("a pointer that is no packet of IoAllocateIrp or IoInitializeIrp is handed to a call");
     if (self.touched)
         tell_touch(self.calls->name, irp);
-    Packet *p = packets[i];
     touch(p->irp, WRITES);
     if (footprints && lets_go(self.calls->name))
         access_to(p->irp, true, NULL, false);
@@ -100,14 +108,13 @@ Packet *find(PIRP irp)
 uint64_t packet_name(const void *address)
 {
     const size_t i = (size_t)((const char *)address - arena) / PAGE;
-    return i < (size_t)n_packets ? packets[i]->name : 0;
+    return is_in_page(address) && i < (size_t)n_packets ? packets[i]->name : 0;
 }
 
-/* The page of the packet that an address lies in, or NULL. */
+/* The begin of the packet that an address lies in, or NULL. */
 const void *packet_page(const void *address)
 {
-    const size_t i = (size_t)((const char *)address - arena) / PAGE;
-    return !arena || (const char *)address < arena || i >= MAX_PACKETS ? NULL : arena + i * PAGE;
+    return is_in_page(address) ? arena + (size_t)((const char *)address - arena) / PAGE * PAGE : initialized_around(address);
 }
 
 void unprotect(Packet *p)
@@ -117,12 +124,13 @@ void unprotect(Packet *p)
     p->trapped = false;
     __atomic_store_n(&p->shut, false, __ATOMIC_SEQ_CST);
     unwatch(p);
-    mprotect(p->irp, PAGE, PROT_READ | PROT_WRITE);
+    if (is_in_page(p->irp))
+        mprotect(p->irp, PAGE, PROT_READ | PROT_WRITE);
 }
 
 void protect(Packet *p)
 {
-    if (is_on && !p->rides)
+    if (is_on && !p->rides && is_in_page(p->irp))
         mprotect(p->irp, PAGE, PROT_NONE);
 }
 

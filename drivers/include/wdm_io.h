@@ -106,7 +106,8 @@ BOOLEAN WdmIoForwardIrpSynchronously(PDEVICE_OBJECT Target, PIRP Irp, WDM_SITE a
 PIRP WdmIoMakeAssociatedIrp(PIRP Master, CCHAR Size, WDM_SITE at);
 VOID WdmIoSetNextIrpStackLocation(PIRP Irp, WDM_SITE at);
 #define IoAllocateIrpEx(device, size, quota) ((void)(device), IoAllocateIrp(size, quota))
-#define IoInitializeIrp(irp, bytes, size) ((void)(bytes), (void)(size), WdmIoReuseIrp((irp), STATUS_SUCCESS, WDM_HERE))
+VOID WdmIoInitializeIrp(PIRP Irp, USHORT Bytes, CCHAR Size, WDM_SITE at);
+#define IoInitializeIrp(irp, bytes, size) WdmIoInitializeIrp((irp), (USHORT)(bytes), (CCHAR)(size), WDM_HERE)
 #define IoMakeAssociatedIrp(master, size) WdmIoMakeAssociatedIrp((master), (size), WDM_HERE)
 #define IoSetNextIrpStackLocation(irp) WdmIoSetNextIrpStackLocation((irp), WDM_HERE)
 #define IoGetFunctionCodeFromCtlCode(code) (((code) >> 2) & 0xfff)
