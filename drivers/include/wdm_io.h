@@ -72,10 +72,12 @@ NTSTATUS IoGetDevicePropertyData(PDEVICE_OBJECT Device, const DEVPROPKEY *Key, L
                                  PVOID Data, PULONG Needed, PDEVPROPTYPE Type);
 NTSTATUS IoOpenDeviceRegistryKey(PDEVICE_OBJECT Device, ULONG Which, ACCESS_MASK Access, PHANDLE Key);
 NTSTATUS IoOpenDeviceInterfaceRegistryKey(PUNICODE_STRING Link, ACCESS_MASK Access, PHANDLE Key);
-NTSTATUS IoRegisterPlugPlayNotification(IO_NOTIFICATION_EVENT_CATEGORY Category, ULONG Flags, PVOID Data,
-                                        PDRIVER_OBJECT Driver, PDRIVER_NOTIFICATION_CALLBACK_ROUTINE Routine,
-                                        PVOID Context, PVOID *Entry);
-NTSTATUS IoUnregisterPlugPlayNotification(PVOID Entry);
+NTSTATUS WdmRegisterNotification(IO_NOTIFICATION_EVENT_CATEGORY Category, ULONG Flags, PVOID Data, PDRIVER_OBJECT Driver,
+                                 PDRIVER_NOTIFICATION_CALLBACK_ROUTINE Routine, PVOID Context, PVOID *Entry, WDM_SITE at);
+#define IoRegisterPlugPlayNotification(category, flags, data, driver, routine, context, entry) \
+    WdmRegisterNotification((category), (flags), (PVOID)(data), (driver), (routine), (context), (entry), WDM_HERE)
+NTSTATUS WdmUnregisterNotification(PVOID Entry, WDM_SITE at);
+#define IoUnregisterPlugPlayNotification(entry) WdmUnregisterNotification((entry), WDM_HERE)
 #define IoUnregisterPlugPlayNotificationEx IoUnregisterPlugPlayNotification
 typedef VOID DEVICE_CHANGE_COMPLETE_CALLBACK(PVOID Context);
 typedef DEVICE_CHANGE_COMPLETE_CALLBACK *PDEVICE_CHANGE_COMPLETE_CALLBACK;
