@@ -382,7 +382,7 @@ RIGHT_SHAPES = """
 """.split()
 # Stacks that the host's own test is clean over. The others have no PnP, or want settings that their tests make.
 FOR_OWN_TEST = ["handover", "keyboard", "children", "policy", "power", "removal", "split", "serial", "shared", "late",
-                "settings"]
+                "settings", "reserve"]
 
 # Drivers of hostile/ that the host stops after ten times its patience, so they have more seconds than others.
 SLOW_TO_STOP = {"polls": 40, "arms_again": 40}

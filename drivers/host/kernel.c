@@ -72,9 +72,14 @@ bool give_spin_lock(PKSPIN_LOCK lock, LockKind kind, const char *name, KIRQL irq
     Call c;
     enter_host(&c, name, at);
     hands_over();
+    int seat;
+    const Hold *h = holder_of(lock, &seat);
+    const bool is_right = h && h->before == irql;
     if (lowers)
         check_release_level(lock, irql);
     const bool given = lock_given_back(lock, kind);
+    if (given && lowers && !is_right)
+        self.raised = at;
     if (given && lowers)
         set_level(irql, at);
     touch(lock, SYNCS);
