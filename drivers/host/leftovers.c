@@ -13,7 +13,7 @@ static void tell_devices(int driver)
 {
     char text[100];
     for (int i = 0; i < n_devices; i++)
-        if (devices[i].live && !devices[i].leaving && devices[i].driver->HostNumber == driver) {
+        if (devices[i].live && !devices[i].leaving && !devices[i].stays && devices[i].driver->HostNumber == driver) {
             snprintf(text, sizeof text, "the device %s", who(i));
             left_behind(text, "IoCreateDevice", devices[i].created);
         }
