@@ -249,6 +249,50 @@ def copied(bench):
         yield f"touches through a function of C, by {name}", None if well else said[-900:]
 
 
+ENDED = r"""#include <wdm.h>
+static IRP copy;
+static NTSTATUS Read(PDEVICE_OBJECT DeviceObject, PIRP Irp)
+{
+    UNREFERENCED_PARAMETER(DeviceObject);
+    UNREFERENCED_PARAMETER(copy);
+#ifdef RIGHT
+    TOUCHES;
+#endif
+    Irp->IoStatus.Status = STATUS_SUCCESS;
+    Irp->IoStatus.Information = 0;
+    IoCompleteRequest(Irp, IO_NO_INCREMENT);
+#ifndef RIGHT
+    TOUCHES;
+#endif
+    return STATUS_SUCCESS;
+}
+NTSTATUS DriverEntry(PDRIVER_OBJECT DriverObject, PUNICODE_STRING RegistryPath)
+{
+    PDEVICE_OBJECT device;
+    UNREFERENCED_PARAMETER(RegistryPath);
+    DriverObject->MajorFunction[IRP_MJ_READ] = Read;
+    return IoCreateDevice(DriverObject, 0, NULL, FILE_DEVICE_NULL, 0, FALSE, &device);
+}
+"""
+
+
+def ended(bench):
+    """An ended packet that is copied, or counted in by an interlocked call, is told by the driver's line, by whatever
+    program these functions are; before its end it isn't told."""
+    path = bench.folder("ended") + "/ended.c"
+    with open(path, "w", encoding="utf-8") as it:
+        it.write(ENDED)
+    line = max(n for n, text in enumerate(ENDED.splitlines(), 1) if "TOUCHES" in text)
+    ways = [("copied", "RtlCopyMemory(&copy,Irp,sizeof(IRP))"), ("counted in", "InterlockedIncrement((LONG*)&Irp->Flags)")]
+    for name, way in ways:
+        for how, words in ("real threads", ["--real"]), ("a schedule", ["--shake", "1"]):
+            said, status = ran(bench, *words, f"--cflag=-DTOUCHES={way}", path)
+            well = status == 1 and f"FAULT Touched (used after its end): ended.c:{line} in Read(" in said
+            yield f"an ended packet is {name}, by {how}", None if well else said[-900:]
+        said, status = ran(bench, "--shake", "1", "--cflag=-DRIGHT", f"--cflag=-DTOUCHES={way}", path)
+        yield f"a packet is {name} before its end", said[-900:] if status else None
+
+
 STARVED = r"""#include <wdm.h>
 #include "wdm_test.h"
 #include <pthread.h>

@@ -7,6 +7,7 @@ const char *packet_at(int device);
 const char *callers_of(const Call *c);
 void keep_callers(Callers *kept, const Call *c);
 const char *place_with_callers(WDM_SITE at, const Callers *kept);
+bool is_helper(const void *at);
 int where_is(bool in_handler, const void **at, int most);
 const void *instruction_of(const void *context);
 void put_places(char *text, size_t size, const void *const *at, int n);

@@ -10,11 +10,17 @@
 static char *arena;
 static bool is_on;
 
-/* The instruction of a touch; where the C library makes it, the call of that. */
+/* The instruction of a touch; where a function makes it that copies for its caller, the call of that. */
 static const void *toucher_of(const void *context)
 {
-    const void *at = instruction_of(context), *above;
-    return is_in_program(at) || !where_is(true, &above, 1) ? at : above;
+    const void *at = instruction_of(context), *above[MOST_CALLERS];
+    int i = 0;
+    if (is_in_program(at) && !is_helper(at))
+        return at;
+    const int n = where_is(true, above, MOST_CALLERS);
+    while (i < n && is_helper(above[i]))
+        i++;
+    return i < n ? above[i] : at;
 }
 
 /* The driver whose function touches, where the routine that runs is another driver's; or NOBODY. */
