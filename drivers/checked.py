@@ -293,6 +293,59 @@ def ended(bench):
         yield f"a packet is {name} before its end", said[-900:] if status else None
 
 
+PASSES = r"""#include <wdm.h>
+typedef struct { PDEVICE_OBJECT Lower; } EXTENSION, *PEXTENSION;
+static NTSTATUS Pass(PDEVICE_OBJECT DeviceObject, PIRP Irp)
+{
+    IoSkipCurrentIrpStackLocation(Irp);
+    return IoCallDriver(((PEXTENSION)DeviceObject->DeviceExtension)->Lower, Irp);
+}
+static NTSTATUS Pnp(PDEVICE_OBJECT DeviceObject, PIRP Irp)
+{
+    PDEVICE_OBJECT lower = ((PEXTENSION)DeviceObject->DeviceExtension)->Lower;
+    const UCHAR minor = IoGetCurrentIrpStackLocation(Irp)->MinorFunction;
+    const NTSTATUS status = Pass(DeviceObject, Irp);
+    if (minor == IRP_MN_REMOVE_DEVICE) {
+        IoDetachDevice(lower);
+        IoDeleteDevice(DeviceObject);
+    }
+    return status;
+}
+static NTSTATUS AddDevice(PDRIVER_OBJECT DriverObject, PDEVICE_OBJECT Pdo)
+{
+    PDEVICE_OBJECT device;
+    NTSTATUS status = IoCreateDevice(DriverObject, sizeof(EXTENSION), NULL, FILE_DEVICE_UNKNOWN, 0, FALSE, &device);
+    if (!NT_SUCCESS(status))
+        return status;
+    ((PEXTENSION)device->DeviceExtension)->Lower = IoAttachDeviceToDeviceStack(device, Pdo);
+    device->Flags &= ~(ULONG)DO_DEVICE_INITIALIZING;
+    return STATUS_SUCCESS;
+}
+NTSTATUS DriverEntry(PDRIVER_OBJECT DriverObject, PUNICODE_STRING RegistryPath)
+{
+    UNREFERENCED_PARAMETER(RegistryPath);
+    for (int i = 0; i <= IRP_MJ_MAXIMUM_FUNCTION; i++)
+        if ((LEAVES >> i & 1) == 0)
+            DriverObject->MajorFunction[i] = i == IRP_MJ_PNP ? Pnp : Pass;
+    DriverObject->DriverExtension->AddDevice = AddDevice;
+    return STATUS_SUCCESS;
+}
+"""
+
+
+def dispatches(bench):
+    """Each dispatch that a driver lacks of those that have to pass on is told, whichever is asked for first; no other one."""
+    path = bench.folder("dispatches") + "/passes.c"
+    with open(path, "w", encoding="utf-8") as it:
+        it.write(PASSES)
+    majors = {"POWER": 1 << 22, "SYSTEM_CONTROL": 1 << 23, "PNP": 1 << 27}
+    for left in ((), ("POWER",), ("POWER", "SYSTEM_CONTROL"), ("PNP", "POWER"), tuple(majors)):
+        said, status = ran(bench, f"--cflag=-DLEAVES={sum(majors[it] for it in left)}", path)
+        told = re.findall(r"FAULT NotPassedDown .*? has no dispatch for IRP_MJ_(\w+),", said)
+        well = sorted(told) == sorted(left) and status == bool(left)
+        yield f"a driver without a dispatch for {' and '.join(left) or 'nothing'}", None if well else f"{told} {said[-700:]}"
+
+
 STARVED = r"""#include <wdm.h>
 #include "wdm_test.h"
 #include <pthread.h>
