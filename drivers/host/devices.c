@@ -146,18 +146,20 @@ static void tell_gone(int d)
         check_gone(devices[d].raw->DeviceExtension, devices[d].raw->HostExtensionSize, gone_text(d));
 }
 
-/* Packets are there, and a reference keeps the device: as in Windows it goes with the last one. The record has the delete
-   then. */
+/* A reference keeps the device: as in Windows it goes with the last one, and until then a request may come. The record has
+   the delete then. */
 static bool stays_for_now(int d)
 {
     const Entry e = { .op = REMOVE, .device = d, .drained = true };
-    const char *no = is_referenced(devices[d].raw) ? rules_refusal(&e) : NULL;
-    if (!no || strcmp(no, "InFlight"))
+    const char *no = rules_refusal(&e);
+    if (!is_referenced(devices[d].raw) || (no && strcmp(no, "InFlight")))
         return false;
     touch(&devices[d].items, SYNCS);
     devices[d].stays = true;
+    devices[d].drained = lock_knows_drained(d);
     devices[d].deleted = self.calls->at;
     take_off_list(devices[d].raw);
+    forget_names(devices[d].raw);
     return true;
 }
 
@@ -167,7 +169,7 @@ static void delete_now(int d, const Frame *mine)
         return;
     Entry *e = begin(REMOVE, NULL, d);
     e->device = d;
-    e->drained = !devices[d].bound || lock_knows_drained(d);
+    e->drained = !devices[d].bound || devices[d].drained || lock_knows_drained(d);
     const char *no = rules_refusal(e);
     if (no && !strcmp(no, "InFlight") && is_in_open_entry(d)) {
         /* the history doesn't have that packet's descent yet, so this call isn't recorded */

@@ -213,7 +213,8 @@ typedef struct {
     WDM_SITE deleted; /* where its delete was called that waits for the device above, or for what keeps its extension */
     int items;        /* its work items that are queued or run */
     bool goes;        /* it is deleted, and its extension goes with the last of these, and of the references to it */
-    bool stays;       /* the same, with packets there yet: the delete itself is put off until the last reference is back */
+    bool stays;       /* it is to be deleted, which is put off until the last reference to it is back */
+    bool drained;     /* the thread that wanted it knew that its remove lock is drained */
 } Device;
 
 /* A call of the host that runs on this thread. */

@@ -25,6 +25,14 @@ Entry *begin(Op op, Packet *p, int by)
     return e;
 }
 
+/* A device that kept or finished the packet may have been detached since it was asked: the entry comes behind that. */
+static void look_below(Entry *e)
+{
+    for (int i = 0; i < e->n; i++)
+        if (e->asked[i].kind == DISPATCH && (e->asked[i].plan == FINISH || e->asked[i].plan == HOLD))
+            e->asked[i].has_lower = devices[e->asked[i].device].lower >= 0;
+}
+
 /* The entry is settled: it gets the next number. `cancel` is what all that were asked have been shown. */
 void seal(Entry *e, bool cancel)
 {
@@ -36,6 +44,7 @@ void seal(Entry *e, bool cancel)
         if (!history)
             give_up("out of memory");
     }
+    look_below(e);
     e->cancel = cancel;
     e->sealed = true;
     e->number = n_history;

@@ -15,13 +15,15 @@ typedef struct {
     PFILE_OBJECT File;
     PDEVICE_OBJECT Device;
     LONG News;
+    KEVENT Heard; /* of two news */
 } EXTENSION, *PEXTENSION;
 
 static NTSTATUS HasNews(PVOID Notification, PVOID Context)
 {
     const TARGET_DEVICE_CUSTOM_NOTIFICATION *news = Notification;
-    if (IsEqualGUID(&news->Event, &SourceHasNews))
-        InterlockedIncrement(&((PEXTENSION)Context)->News);
+    PEXTENSION ext = Context;
+    if (IsEqualGUID(&news->Event, &SourceHasNews) && InterlockedIncrement(&ext->News) == 2)
+        KeSetEvent(&ext->Heard, IO_NO_INCREMENT, FALSE);
     return STATUS_SUCCESS;
 }
 
@@ -81,6 +83,7 @@ NTSTATUS DriverEntry(PDRIVER_OBJECT DriverObject, PUNICODE_STRING RegistryPath)
         return status;
     PEXTENSION ext = device->DeviceExtension;
     ext->Driver = DriverObject;
+    KeInitializeEvent(&ext->Heard, NotificationEvent, FALSE);
     ext->Opening = IoAllocateWorkItem(device);
     status = ext->Opening ? STATUS_SUCCESS : STATUS_INSUFFICIENT_RESOURCES;
     if (NT_SUCCESS(status))
@@ -176,9 +179,8 @@ static void use(BOOLEAN comes_first)
     if (!listener)
         return;
     PEXTENSION ext = listener->DeviceObject->DeviceExtension;
-    for (int i = 0; i < 100 && ext->News < 2; i++)
-        Pause(1);
-    WDM_CHECK(ext->News == 2);
+    LARGE_INTEGER limit = Milliseconds(5000);
+    WDM_CHECK(KeWaitForSingleObject(&ext->Heard, Executive, KernelMode, FALSE, &limit) == STATUS_SUCCESS);
     WdmUnloadDriver(listener);
     WdmSend(IoGetAttachedDevice(bottom), IRP_MJ_PNP, IRP_MN_REMOVE_DEVICE, 0);
     IoDeleteDevice(bottom);
