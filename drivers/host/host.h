@@ -344,18 +344,6 @@ bool is_bottom(PDEVICE_OBJECT device);
 bool timers_armed(void);
 ULONG next_new_timer(ULONG most);
 
-/* objects.c, mdl.c, start_io.c: what wdm_ob.h, wdm_mm.h and wdm_hw.h have */
-bool is_referenced(PVOID object);
-HANDLE new_handle(POBJECT_TYPE type, PVOID object);
-PVOID handle_object(HANDLE handle, POBJECT_TYPE type);
-void tell_references(void);
-void forget_names(PDEVICE_OBJECT device);
-void reinitialize(PDRIVER_OBJECT driver);
-void tell_files_dereferenced(PVOID object);
-PFILE_OBJECT file_for(PDEVICE_OBJECT top, UCHAR major);
-void give_mdl(Packet *p);
-void tell_locked_mdls(void);
-
 /* devices.c, packets.c, preparing.c */
 void delete_after(int device);
 PIO_STACK_LOCATION raw_at(Packet *p, int j);
@@ -382,10 +370,6 @@ void take_hand_skip(Packet *p);
 void take_hand_mark(Packet *p);
 void tell_ghost(Packet *p);
 
-/* associated.c */
-bool is_associated(const Packet *p);
-void associated_ended(Packet *p);
-
 /* settling.c, sending.c, completion.c, in_place.c */
 void settle(Packet *p, bool returned);
 void take_kept_answer(Packet *p, Frame *f);
@@ -401,17 +385,6 @@ void rider_came_up(Packet *rider, Entry *e);
 bool dispatch_has_it_back(Packet *p, Frame *routine);
 bool will_wait(const Packet *p, const Frame *dispatch);
 NTSTATUS forward_in_place(Packet *p, int device);
-
-/* traps.c, remove_locks.c */
-void open_traps(void);
-bool is_in_page(const void *address);
-void protect(Packet *p);
-void shut(Packet *p);
-void unprotect(Packet *p);
-void tell_touch(const char *call, PIRP irp);
-void tell_all_touches(void);
-bool lock_knows_drained(int device);
-const char *held_tags(int device);
 
 #include "checks.h"
 #include "placing.h"

@@ -1,4 +1,4 @@
-/* told.h: what is told of a run that ends badly, and of what a driver has left or written over. */
+/* told.h: what is told of a run that ends badly, and of what a driver has left, written over or touched. */
 #ifndef DRIVERS_TOLD_H
 #define DRIVERS_TOLD_H
 
@@ -46,6 +46,33 @@ int driver_of_file(const char *file);
 
 /* reached.c */
 void tell_unreached(FILE *out);
+
+/* objects.c, mdl.c, start_io.c: what wdm_ob.h, wdm_mm.h and wdm_hw.h have */
+bool is_referenced(PVOID object);
+HANDLE new_handle(POBJECT_TYPE type, PVOID object);
+PVOID handle_object(HANDLE handle, POBJECT_TYPE type);
+void tell_references(void);
+void forget_names(PDEVICE_OBJECT device);
+void reinitialize(PDRIVER_OBJECT driver);
+void tell_files_dereferenced(PVOID object);
+PFILE_OBJECT file_for(PDEVICE_OBJECT top, UCHAR major);
+void give_mdl(Packet *p);
+void tell_locked_mdls(void);
+
+/* associated.c */
+bool is_associated(const Packet *p);
+void associated_ended(Packet *p);
+
+/* traps.c, remove_locks.c */
+void open_traps(void);
+bool is_in_page(const void *address);
+void protect(Packet *p);
+void shut(Packet *p);
+void unprotect(Packet *p);
+void tell_touch(const char *call, PIRP irp);
+void tell_all_touches(void);
+bool lock_knows_drained(int device);
+const char *held_tags(int device);
 
 /* initialized.c */
 Packet *initialized_at(const void *at);
