@@ -88,7 +88,7 @@ void open_traps(void)
 static bool lets_go(const char *call)
 {
     return !strcmp(call, "IoCompleteRequest") || !strcmp(call, "IoCallDriver") || !strcmp(call, "IoFreeIrp") ||
-        !strcmp(call, "IoReuseIrp");
+        !strcmp(call, "IoReuseIrp") || !strcmp(call, "IoInitializeIrp");
 }
 
 /* The shadow of a packet; that of a rider, where one stands in its memory. */
