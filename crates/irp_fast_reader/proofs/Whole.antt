@@ -93,7 +93,7 @@ words_taken header entries before (line ∷ words) h =
     )
 
 entries_taken : (header : Header) (before entries : List Entry) (words : List WordLine) → length before + length entries ≤ most_entries
-    → All (EntryUnder header) entries → All (LineFits (WordUnder header) word_json) words
+    → All (LineFits (EntryUnder header) entry_json) entries → All (LineFits (WordUnder header) word_json) words
     → TakesAll (made header before []) (map compact_text (map entry_json entries ++ map word_json words)) (made header (before ++ entries) words)
 entries_taken header before [] words few h k =
     subst (λ (all : List Entry). TakesAll (made header before []) (map compact_text (map word_json words)) (made header all words))

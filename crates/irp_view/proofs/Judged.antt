@@ -1,5 +1,5 @@
 -- A transcript that is judged line after line.
-use Rattle.std.proofs.Common.{◌≡◌, suc, zero, inl, inr, true, false, is_some, slice_get, ◌∷◌, ℕ, ◌+◌, ◌<◌, ◌≤◌, List, [], ◌++◌, length, take, Option, Some, None, refl, sym, subst, ap, ◌∙◌, arith, length-append}
+use Rattle.std.proofs.Common.{◌≡◌, suc, zero, inl, inr, true, false, is_some, slice_get, ◌∷◌, ℕ, ◌+◌, ◌<◌, ◌≤◌, List, [], ◌++◌, length, take, OnOk, Option, Some, None, Result, Ok, Err, refl, sym, subst, ap, ◌∙◌, arith, length-append}
 use Rattle.std.proofs.lemmas.Bool.{cases_lt}
 use Rattle.std.proofs.lemmas.List.{take-append-le}
 use Rattle.std.proofs.lemmas.Option.{none-some, slice_get_within}
@@ -9,11 +9,13 @@ use Rattle.irp_judge.specs.Judging.{HasJudged, JudgeValue}
 use Rattle.irp_transcript.specs.Headers.{fixed_of}
 use Rattle.irp_transcript.specs.Transcripts.{TranscriptValue, no_lines}
 use Rattle.irp_transcript.specs.declared.header.Header.{Header}
-use Rattle.irp_fast_reader.specs.Fed.{with_line}
+use Rattle.irp_fast_reader.specs.Fed.{IsInPlace, with_line}
+use Rattle.irp_fast_reader.specs.declared.line.Line.{Line}
 use Rattle.irp_fast_reader.specs.declared.line.Line.TheVariants.{Header as HeaderLine}
 use Rattle.irp_feed.specs.Feeding.{Fails, refused_line}
 use Rattle.irp_feed.specs.Input.{Bytes}
 use Rattle.irp_feed.specs.declared.unfed.Unfed.{Unfed}
+use Rattle.irp_feed.proofs.Fed.{header_stays}
 use Rattle.irp_judge.specs.declared.verdict.Verdict.TheVariants.{Illegal}
 use Rattle.irp_types.specs.declared.entry.Entry.{Entry}
 use Rattle.irp_types.specs.State.{Fixed}
@@ -124,6 +126,23 @@ starts_judged judge kept header same judged words drafted noted none = record {
   drafted = drafted;
   noted = noted;
 }
+
+-- one line more was taken
+pub judged_on : {E : Type 0} (result : Result (Unit {0}) E) (old new : JudgeValue) (kept then : Kept) (choice : Option Choice) (before : TranscriptValue) (line : Line)
+    → IsJudged old kept choice before → IsInPlace before line → new.header ≡ old.header → choice_of then.draft ≡ choice
+    → AreDrafted then.draft (with_line before line).entries → HasNoted then.refused (with_line before line).entries
+    → OnOk result (HasJudged new (with_line before line).entries × IsKept (with_line before line).entries new.wrong then.entry × (then.words ≡ length (with_line before line).words))
+    → OnOk result (IsJudged new then choice (with_line before line))
+judged_on (Ok done) old new kept then choice before line was place header chosen drafted noted fed = record {
+  header = header_stays before line old.header place was.header ∙ ap (λ (given : Header). Some given) (sym header);
+  judged = fed.0;
+  entry = fed.1;
+  words = fed.2;
+  choice = chosen;
+  drafted = drafted;
+  noted = noted;
+}
+judged_on (Err fault) old new kept then choice before line was place header chosen drafted noted fed = tt
 
 some_header : (known : Option Header) (header : Header) (entries : List Entry) → known ≡ Some header → known ≡ None → entries ≡ []
 some_header known header entries is none = absurd (none-some header (sym none ∙ is))

@@ -1,8 +1,8 @@
 -- A transcript that is shown while its text is read, block after block.
-use Rattle.std.proofs.Common.{◌≡◌, ℕ, ◌+◌, List, [], ◌++◌, length, Option, Some, None, Result, Ok, Err, refl, sym, subst, ap, ◌∙◌, append_assoc, append-nil, arith, length-append}
+use Rattle.std.proofs.Common.{◌≡◌, ℕ, ◌+◌, List, [], ◌++◌, length, Option, Some, None, OnOk, Result, Ok, Err, refl, sym, subst, ap, ◌∙◌, append_assoc, append-nil, arith, length-append}
 use Rattle.std.specs.Io.KnownBytes.{IsAtEnd}
 use Rattle.irp_types.specs.declared.names.IrpRef.{IrpRef}
-use Rattle.irp_transcript.specs.Transcripts.{no_lines}
+use Rattle.irp_transcript.specs.Transcripts.{TranscriptValue, no_lines}
 use Rattle.irp_transcript.specs.declared.header.Header.{Header}
 use Rattle.irp_transcript_reader.specs.Reading.{cut}
 use Rattle.irp_transcript_writer.proofs.Puts.{appends_none, appends_then}
@@ -16,12 +16,27 @@ use Rattle.irp_feed.proofs.Fed.{is_input, none_of_end, say_all, say_more}
 use Rattle.irp_feed.proofs.Pieces.{reads_on}
 use Rattle.irp_listing.specs.Writing.{BreaksOff, Written, count_after}
 use Rattle.irp_listing.specs.declared.writing.Unwritten.{Unwritten}
-use Rattle.irp_view.specs.Listed.{Aim, AreGathered, AreShown, AreShownBefore, AreShownUpTo, BreaksAt, GathersBlock, HasGathered, IsFresh, SendsInput, ShowsAllBefore, ShowsFirst, ShowsInput, StopsAt, aim_of}
+use Rattle.irp_view.specs.Listed.{Aim, AreGathered, AreShown, AreShownBefore, AreShownUpTo, BreaksAt, GathersBlock, HasGathered, IsFresh, IsGathered, SendsInput, ShowsAllBefore, ShowsFirst, ShowsInput, StopsAt, aim_of}
 use Rattle.irp_view.specs.Showing.{IsShowing}
 use Rattle.irp_view.specs.declared.listing.Gathering.{Gathering}
 use Rattle.irp_view.specs.declared.orders.Span.{Span}
+use Rattle.irp_view.specs.declared.showing.Shown.{Shown}
 use Rattle.irp_view.specs.declared.showing.Wanted.{Wanted}
 use Rattle.irp_view.proofs.Gathered.{shows_none}
+
+-- ---- a line
+
+-- one more was gathered
+pub gathered_on : {E : Type 0} (result : Result (Unit {0}) E) (gathering : Gathering) (after : Shown) (aim : Aim) (transcript : TranscriptValue)
+    → gathering.wanted.choice.only ≡ aim.only → gathering.wanted.span ≡ aim.span
+    → OnOk result (IsGathered gathering.wanted.choice.only gathering.wanted.span after aim.sent transcript)
+    → OnOk result (HasGathered (record gathering { shown = after }) aim transcript)
+gathered_on (Ok done) gathering after aim transcript only span is = record {
+  only = only;
+  span = span;
+  is = subst (λ (given : Option IrpRef × Option Span). IsGathered given.0 given.1 after aim.sent transcript) (λ i. (only i, span i)) is;
+}
+gathered_on (Err fault) gathering after aim transcript only span is = tt
 
 -- ---- a block that was read
 

@@ -55,7 +55,11 @@ abbrev pub Ends : Bytes → Bytes → Option Choice → Result Found Unread → 
 Ends old new choice (Ok found) = HoldsFound old new found × (choice_of found.draft ≡ choice)
 Ends old new choice (Err unread) = Fails old new (line_of unread)
 
--- the same with the header
+-- the same with the header, and with the draft or without
+abbrev pub JudgesAll : Bytes → Bytes → Option Choice → Result Judged Unread → Type 0
+JudgesAll old new choice (Ok judged) = HoldsFound old new judged.found × (choice_of judged.found.draft ≡ choice)
+JudgesAll old new choice (Err unread) = Fails old new (line_of unread)
+
 abbrev pub EndsWith : Bytes → Bytes → Result Judged Unread → Type 0
 EndsWith old new (Ok judged) = HoldsFound old new judged.found
 EndsWith old new (Err unread) = Fails old new (line_of unread)

@@ -11,7 +11,7 @@ ghost use Rattle.irp_page.specs.declared.choosing.Choice.{Choice};
 ghost use Rattle.irp_transcript.specs.Headers.{IsHeader};
 ghost use Rattle.irp_transcript.specs.Transcripts.{TranscriptValue, no_lines};
 ghost use Rattle.irp_view.specs.Drafts.{AreDrafted, choice_of};
-ghost use Rattle.irp_view.specs.Judging.{Ends, EndsWith, IsFound, IsJudged, IsKept};
+ghost use Rattle.irp_view.specs.Judging.{Ends, EndsWith, IsFound, IsJudged, IsKept, JudgesAll};
 
 use crate::drawing::draft_line;
 use crate::reading::{Unread, unread_behind};
@@ -191,6 +191,33 @@ fn judge_rest<R: Read>(
     }
 }
 
+/// Judges what follows the header of a text, and keeps the header.
+fn judge_behind<R: Read>(
+    alloc: Global,
+    input: &mut R,
+    buffer: &mut [u8],
+    reader: &mut Reader,
+    start: Start,
+    draft: Option<Draft>,
+) -> Result<Judged, Unread>
+    requires room { 0 < length buffer.old }
+    requires header { IsHeader start.header }
+    requires order { start.from ≤ start.to }
+    requires within { start.to ≤ length buffer.old }
+    requires few { start.left ≤ most_bytes }
+    requires fresh { AreDrafted draft [] }
+    ensures { (old : Bytes) → Starts old (R.remaining input.old) start reader.old buffer.old
+        → JudgesAll old (R.remaining input.new) (choice_of draft) result }
+{
+    match judge_rest(alloc, input, buffer, reader, &start, draft) {
+        Ok(found) => Ok(Judged {
+            header: Some(start.header),
+            found,
+        }),
+        Err(unread) => Err(unread),
+    }
+}
+
 /// What is found in a transcript without lines.
 #[tactic(auto, using(crate::proofs::Judged::finds_nothing))]
 fn found_nothing(alloc: Global, draft: Option<Draft>) -> Found
@@ -227,19 +254,12 @@ pub fn judge_input<R: Read>(
 {
     let mut buffer = [0u8; BLOCK];
     let mut reader = Reader::new(alloc);
-    let start = match read_header(alloc, input, &mut buffer, &mut reader) {
-        Ok(Some(start)) => start,
-        Ok(None) => {
-            return Ok(Judged {
-                header: None,
-                found: found_nothing(alloc, draft),
-            });
-        }
-        Err(unfed) => return Err(unread_behind(alloc, Before::nothing(), unfed)),
-    };
-    let found = judge_rest(alloc, input, &mut buffer, &mut reader, &start, draft)?;
-    Ok(Judged {
-        header: Some(start.header),
-        found,
-    })
+    match read_header(alloc, input, &mut buffer, &mut reader) {
+        Ok(Some(start)) => judge_behind(alloc, input, &mut buffer, &mut reader, start, draft),
+        Ok(None) => Ok(Judged {
+            header: None,
+            found: found_nothing(alloc, draft),
+        }),
+        Err(unfed) => Err(unread_behind(alloc, Before::nothing(), unfed)),
+    }
 }

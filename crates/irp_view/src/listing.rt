@@ -185,6 +185,58 @@ fn before_of(header: &Header, shown: &Shown) -> Before {
     Before::behind(header, shown.entries(), shown.has_words())
 }
 
+/// Why an input's transcript isn't shown, as it is told behind these lines.
+fn told(
+    alloc: Global,
+    header: &Header,
+    shown: &Shown,
+    sent: Result<(), Unsent>,
+) -> Result<(), Unshown>
+    ensures { (only : Option IrpRef) (span : Option Span) (left rest old new : Bytes) (before after : ℕ)
+        → SendsInput sent only span left rest old new before after
+        → ShowsInput result only span left rest old new before after }
+{
+    match sent {
+        Ok(()) => Ok(()),
+        Err(Unsent::Unwritten(fault)) => Err(Unshown::Unwritten(fault)),
+        Err(Unsent::Unfed(unfed)) => {
+            let unread = unread_behind(alloc, before_of(header, shown), unfed);
+            Err(Unshown::Unread(unread))
+        }
+    }
+}
+
+/// Shows what follows the header of a text: the entries of one use of a packet or of all, and those of a span or of the
+/// whole history.
+fn show_behind<R: Read, O: Out>(
+    alloc: Global,
+    input: &mut R,
+    output: &mut O,
+    buffer: &mut [u8],
+    reader: &mut Reader,
+    start: &Start,
+    only: Option<IrpRef>,
+    span: Option<Span>,
+) -> Result<(), Unshown>
+    requires room { 0 < length buffer.old }
+    requires order { start.now.from ≤ start.now.to }
+    requires within { start.now.to ≤ length buffer.old }
+    requires few { start.now.left ≤ most_bytes }
+    ensures { (left : Bytes)
+        → Starts left (R.remaining input.old) start.now reader.old buffer.old
+        → ShowsInput result only span left (R.remaining input.new)
+        (O.gone output.old) (O.gone output.new) (O.failures output.old) (O.failures output.new) }
+{
+    let tells_seats = start.header.seats > 1;
+    let choice = Choice { only, tells_seats };
+    let mut gathering = Gathering {
+        wanted: Wanted { choice, span },
+        shown: Shown::new(alloc),
+    };
+    let sent = show_rest(alloc, input, output, buffer, reader, start, &mut gathering);
+    told(alloc, &start.header, &gathering.shown, sent)
+}
+
 /// Shows the transcript that the input holds, which is read up to its end: its entries, those of one use of a packet or
 /// of all, and those of a span or of the whole history; behind all of them its word lines. What stands for the lines of
 /// a block is sent when the block was read. Of the text a block is kept, and the beginning of a line that ends in the
@@ -206,34 +258,21 @@ pub fn show_transcript<R: Read, O: Out>(
 {
     let mut buffer = [0u8; BLOCK];
     let mut reader = Reader::new(alloc);
-    let start = match read_header(alloc, input, &mut buffer, &mut reader) {
-        Ok(Some(start)) => start,
-        Ok(None) => return Ok(()),
+    match read_header(alloc, input, &mut buffer, &mut reader) {
+        Ok(Some(start)) => show_behind(
+            alloc,
+            input,
+            output,
+            &mut buffer,
+            &mut reader,
+            &start,
+            only,
+            span,
+        ),
+        Ok(None) => Ok(()),
         Err(unfed) => {
             let unread = unread_behind(alloc, Before::nothing(), unfed);
-            return Err(Unshown::Unread(unread));
-        }
-    };
-    let tells_seats = start.header.seats > 1;
-    let choice = Choice { only, tells_seats };
-    let mut gathering = Gathering {
-        wanted: Wanted { choice, span },
-        shown: Shown::new(alloc),
-    };
-    match show_rest(
-        alloc,
-        input,
-        output,
-        &mut buffer,
-        &mut reader,
-        &start,
-        &mut gathering,
-    ) {
-        Ok(()) => Ok(()),
-        Err(Unsent::Unwritten(fault)) => Err(Unshown::Unwritten(fault)),
-        Err(Unsent::Unfed(unfed)) => {
-            let before = before_of(&start.header, &gathering.shown);
-            Err(Unshown::Unread(unread_behind(alloc, before, unfed)))
+            Err(Unshown::Unread(unread))
         }
     }
 }

@@ -6,11 +6,11 @@ ghost use Rattle.irpx.specs.Checking.{Checks, Told, Untold, verdict_line};
 ghost use Rattle.irpx.specs.Judging.{Ends};
 ghost use Rattle.irpx.specs.Streams.{TakesAtMost, output_of, streams_of};
 
-use crate::judging::{Judging, refusal};
+use crate::judging::{judge_rest, refusal};
 use crate::not_done::{NotDone, Phase};
 use irp_fast_reader::Reader;
-use irp_feed::{BLOCK, feed_rest, read_header};
-use irp_judge::{Judge, Verdict};
+use irp_feed::{BLOCK, read_header};
+use irp_judge::Verdict;
 use irp_transcript_writer::{Out, put_all};
 use std::alloc::{AllocError, Global};
 use std::io::Read;
@@ -21,15 +21,9 @@ fn judged<R: Read>(alloc: Global, input: &mut R) -> Result<Verdict, NotDone>
 {
     let mut buffer = [0u8; BLOCK];
     let mut reader = Reader::new(alloc);
-    let start = match read_header(alloc, input, &mut buffer, &mut reader) {
-        Ok(Some(start)) => start,
-        Ok(None) => return Ok(Verdict::Legal { entries: 0 }),
-        Err(unfed) => return Err(refusal(unfed)),
-    };
-    let judge = Judge::new(alloc, &start.header);
-    let mut judging = Judging { judge };
-    match feed_rest(alloc, input, &mut buffer, &mut reader, &start, &mut judging) {
-        Ok(()) => Ok(judging.judge.verdict()),
+    match read_header(alloc, input, &mut buffer, &mut reader) {
+        Ok(Some(start)) => judge_rest(alloc, input, &mut buffer, &mut reader, &start),
+        Ok(None) => Ok(Verdict::Legal { entries: 0 }),
         Err(unfed) => Err(refusal(unfed)),
     }
 }

@@ -1,19 +1,24 @@
 //! The lines of a transcript, judged one after another. No line that was judged is kept.
 
-ghost use Rattle.std.specs.Prelude.{◌≡◌};
-ghost use Rattle.irpx.specs.Judging.{refusal_of};
+ghost use Rattle.std.specs.Prelude.{◌≡◌, ◌<◌, ◌≤◌, length};
+ghost use Rattle.irp_feed.specs.Feeding.{Starts};
+ghost use Rattle.irp_feed.specs.Input.{most_bytes};
+ghost use Rattle.irp_transcript.specs.Headers.{IsHeader};
+ghost use Rattle.irpx.specs.Judging.{Ends, refusal_of};
+ghost use Rattle.irpx.specs.Streams.{Bytes};
 
 use crate::not_done::{NotDone, Phase};
-use irp_fast_reader::Line;
-use irp_feed::{LineSink, Unfed};
-use irp_judge::Judge;
-use std::alloc::AllocError;
+use irp_fast_reader::{Line, Reader};
+use irp_feed::{LineSink, Start, Unfed, feed_rest};
+use irp_judge::{Judge, Verdict};
+use std::alloc::{AllocError, Global};
+use std::io::Read;
 
 /// Has the judge judge the entries of a transcript.
 #[derive(Drop)]
-pub struct Judging<'a> {
+struct Judging<'a> {
     /// The judge of its history.
-    pub judge: Judge<'a>,
+    judge: Judge<'a>,
 }
 
 impl LineSink for Judging<'_> {
@@ -40,5 +45,29 @@ pub fn refusal(unfed: Unfed) -> NotDone
         Unfed::Input => NotDone::Input,
         Unfed::Refused { line, .. } => NotDone::RefusedLine { line },
         Unfed::NoMemory | Unfed::NotTaken => NotDone::NoMemory(Phase::Reading),
+    }
+}
+
+/// Judges what follows the header of a text.
+pub fn judge_rest<R: Read>(
+    alloc: Global,
+    input: &mut R,
+    buffer: &mut [u8],
+    reader: &mut Reader,
+    start: &Start,
+) -> Result<Verdict, NotDone>
+    requires room { 0 < length buffer.old }
+    requires header { IsHeader start.now.header }
+    requires order { start.now.from ≤ start.now.to }
+    requires within { start.now.to ≤ length buffer.old }
+    requires few { start.now.left ≤ most_bytes }
+    ensures { (old : Bytes) → Starts old (R.remaining input.old) start.now reader.old buffer.old
+        → Ends old (R.remaining input.new) result }
+{
+    let judge = Judge::new(alloc, &start.header);
+    let mut judging = Judging { judge };
+    match feed_rest(alloc, input, buffer, reader, start, &mut judging) {
+        Ok(()) => Ok(judging.judge.verdict()),
+        Err(unfed) => Err(refusal(unfed)),
     }
 }

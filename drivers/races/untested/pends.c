@@ -17,7 +17,9 @@ static NTSTATUS Complete(PIRP Irp, NTSTATUS Status, ULONG_PTR Information)
 static VOID EndRead(PEXTENSION Ext, PIRP Irp, NTSTATUS Status)
 {
     Complete(Irp, Status, 0);
+#ifndef UNLOCKED
     IoReleaseRemoveLock(&Ext->RemoveLock, Irp);
+#endif
 }
 
 static VOID CancelRead(PDEVICE_OBJECT DeviceObject, PIRP Irp)
@@ -67,9 +69,13 @@ static NTSTATUS Read(PDEVICE_OBJECT DeviceObject, PIRP Irp)
 {
     PEXTENSION ext = DeviceObject->DeviceExtension;
     KIRQL irql;
+#ifdef UNLOCKED /* another fault: a read that comes while the device is removed is held */
+    NTSTATUS status = STATUS_SUCCESS;
+#else
     NTSTATUS status = IoAcquireRemoveLock(&ext->RemoveLock, Irp);
     if (!NT_SUCCESS(status))
         return Complete(Irp, status, 0);
+#endif
     KeAcquireSpinLock(&ext->Lock, &irql);
     IoMarkIrpPending(Irp);
     IoSetCancelRoutine(Irp, CancelRead); /* told: KeptOverSurprise */
@@ -126,7 +132,7 @@ static NTSTATUS Pnp(PDEVICE_OBJECT DeviceObject, PIRP Irp)
     IoReleaseRemoveLockAndWait(&ext->RemoveLock, Irp); /* told: NotDrained */
     status = PassDown(DeviceObject, Irp);
     IoDetachDevice(ext->Lower);
-    IoDeleteDevice(DeviceObject);
+    IoDeleteDevice(DeviceObject); /* told: InFlight */
     return status;
 }
 
