@@ -11,38 +11,14 @@ use crate::tried::{Halt, Tried, carried, wanted};
 use irp_routines::{
     CancelRoutine, Dispatch, Reason, Routine, Store, guarded_answer, guarded_cancel, guarded_plan,
 };
-use irp_types::{Answer, CancelAnswer, CancelRule, DispatchId, Known, Plan, Rule, Shown, Status};
+use irp_types::{
+    Answer, CancelAnswer, CancelId, CancelRule, DispatchId, DriverId, Known, Plan, RoutineId, Rule,
+    Shown, Status,
+};
 use std::alloc::Global;
 use std::sync::atomic::Ordering;
 use std::sync::{Arc, Wait};
 use std::thread::Threads;
-
-/// What is added to a store.
-#[derive(Drop)]
-enum Item {
-    Routine(Routine),
-    CancelRoutine(CancelRoutine),
-    Dispatch(Dispatch),
-    Driver(Vec<(u8, DispatchId)>),
-}
-
-/// Boxes a closure, and makes an item of it.
-macro_rules! boxed {
-    ($alloc:ident => $kind:ident, $by:ident: $run:expr) => {
-        match Box::new($alloc, $run) {
-            Ok(run) => Ok(Item::$kind($kind::new($by, run))),
-            Err(_) => Err(Halt::Memory),
-        }
-    };
-}
-
-/// A call that was refused: its name, why, and what came back.
-#[derive(Drop)]
-struct Refused {
-    name: &'static str,
-    reason: Reason,
-    item: Item,
-}
 
 /// Notes its digit and its context, and continues, where its rule lets it.
 fn answered(notes: &Notes, rule: Rule, digit: u32, shown: Shown) -> Answer
@@ -82,70 +58,38 @@ fn planned(notes: &Notes, known: Known, digit: u32, plan: Plan, shown: Shown) ->
     }
 }
 
-/// Adds an item to a store, and answers its number.
-fn put(store: &mut Store, item: Item) -> Result<u32, Refused> {
-    let (name, reason, item) = match item {
-        Item::Routine(own) => {
-            let rule = own.rule();
-            match store.add(own) {
-                Ok(id) => return Ok(if id.rule == rule { id.no } else { u32::MAX }),
-                Err(back) => ("Store::add", back.reason, Item::Routine(back.item)),
-            }
-        }
-        Item::CancelRoutine(own) => match store.add_cancel(own) {
-            Ok(id) => return Ok(id.0),
-            Err(back) => (
-                "Store::add_cancel",
-                back.reason,
-                Item::CancelRoutine(back.item),
-            ),
-        },
-        Item::Dispatch(own) => match store.add_dispatch(own) {
-            Ok(id) => return Ok(id.0),
-            Err(back) => (
-                "Store::add_dispatch",
-                back.reason,
-                Item::Dispatch(back.item),
-            ),
-        },
-        Item::Driver(own) => match store.add_driver(own) {
-            Ok(id) => return Ok(id.0),
-            Err(back) => ("Store::add_driver", back.reason, Item::Driver(back.item)),
-        },
-    };
-    Err(Refused { name, reason, item })
-}
-
-/// Adds an item to a store, which was made of this row: it has to get this number. A refused call has to leave the
-/// store as it was and to hand the item back, which is added again.
-fn add(
-    store: &mut Store,
-    item: Item,
-    row: Asked,
-    number: usize,
-    tried: &mut Tried,
-) -> Result<(), Halt> {
-    let before = extent_of(store.tables());
-    let back = match put(store, item) {
-        Ok(given) => return wanted(given as usize == number, "an item has another number"),
-        Err(back) => back,
-    };
-    let are_back = match (&back.item, row) {
-        (Item::Driver(own), Asked::Driver(_, pairs)) => own.as_slice() == pairs,
-        _ => true,
-    };
-    let is_same = back.reason == Reason::Memory && extent_of(store.tables()) == before;
-    let noted = tried.refused(back.name, is_same && are_back);
-    let is_there = matches!(put(store, back.item), Ok(given) if given as usize == number);
+/// What comes of a call that was refused, which this is noted of, and made again.
+fn added_again(noted: Result<(), Halt>, is_there: bool) -> Result<(), Halt> {
     noted.and(wanted(
         is_there,
         "a call was refused twice, or gives another number",
     ))
 }
 
+/// Adds an item to a store by this call, if memory was there for it: it has to get this number. A refused call has to
+/// leave the store as it was and to hand the item back, which is added again.
+macro_rules! added {
+    ($store:ident, $tried:ident, $made:expr => $call:ident, $name:literal;
+     $own:ident: $item:expr, $id:expr; $back:ident: $is_back:expr) => {{
+        let (before, id) = (extent_of($store.tables()), $id);
+        match $made {
+            Ok($own) => match $store.$call($item) {
+                Ok(given) => wanted(given == id, "an item has another number"),
+                Err($back) => {
+                    let is_same = extent_of($store.tables()) == before && $back.reason == Reason::Memory;
+                    let noted = $tried.refused($name, is_same && $is_back);
+                    let again = $store.$call($back.item);
+                    added_again(noted, matches!(again, Ok(given) if given == id))
+                }
+            },
+            Err(_) => Err(Halt::Memory),
+        }
+    }};
+}
+
 /// The row of this place, where the rows come again and again, and the number that it gets: its own, and one more for
 /// each round. None where there are no rows.
-fn row_at(rows: &[Asked], place: usize) -> Option<(Asked, usize)> {
+fn row_at(rows: &[Asked], place: usize) -> Option<(Asked, u32)> {
     if rows.is_empty() {
         return None;
     }
@@ -156,7 +100,8 @@ fn row_at(rows: &[Asked], place: usize) -> Option<(Asked, usize)> {
         Asked::Dispatch(own, ..) => own,
         Asked::Driver(own, _) => own,
     };
-    Some((row, (own as usize).wrapping_add(place / rows.len())))
+    let round = u32::try_from(place / rows.len()).unwrap_or(0);
+    Some((row, own.wrapping_add(round)))
 }
 
 /// Adds so many closures and drivers to a store, by these rows. Then it plays the example in a session of the store, if
@@ -182,24 +127,33 @@ fn filled<R: Threads + Wait + Sync>(
         let own: Result<_, _> = notes.clone();
         let made = match (row, own) {
             (Asked::Routine(_, rule, digit), Ok(own)) => {
-                boxed! { alloc => Routine, rule: move |shown: Shown| answered(&own, rule, digit, shown) }
+                let run = move |shown: Shown| answered(&own, rule, digit, shown);
+                added! {
+                    store, tried, Box::new(alloc, run) => add, "Store::add";
+                    run: Routine::new(rule, run), RoutineId { rule, no: number }; back: true
+                }
             }
             (Asked::Cancel(_, rule, answer, digit), Ok(own)) => {
-                boxed! { alloc => CancelRoutine, rule: move |_shown: Shown| cancelled(&own, rule, digit, answer) }
+                let run = move |_shown: Shown| cancelled(&own, rule, digit, answer);
+                added! {
+                    store, tried, Box::new(alloc, run) => add_cancel, "Store::add_cancel";
+                    run: CancelRoutine::new(rule, run), CancelId(number); back: true
+                }
             }
             (Asked::Dispatch(_, plan, digit), Ok(own)) => {
-                boxed! { alloc => Dispatch, known: move |shown: Shown| planned(&own, known, digit, plan, shown) }
+                let run = move |shown: Shown| planned(&own, known, digit, plan, shown);
+                added! {
+                    store, tried, Box::new(alloc, run) => add_dispatch, "Store::add_dispatch";
+                    run: Dispatch::new(known, run), DispatchId(number); back: true
+                }
             }
-            (Asked::Driver(_, pairs), Ok(_)) => match pairs.to_vec(alloc) {
-                Ok(own) => Ok(Item::Driver(own)),
-                Err(_) => Err(Halt::Memory),
+            (Asked::Driver(_, pairs), Ok(_)) => added! {
+                store, tried, pairs.to_vec(alloc) => add_driver, "Store::add_driver";
+                own: own, DriverId(number); back: back.item.as_slice() == pairs
             },
             (_, Err(_)) => Err(Halt::Memory),
         };
-        done = done.and(match made {
-            Ok(item) => add(&mut store, item, row, number, tried),
-            Err(halt) => Err(halt),
-        });
+        done = done.and(made);
     }
     let (_, store) = carried(done, store)?;
     match example {
