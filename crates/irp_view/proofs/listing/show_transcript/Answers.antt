@@ -13,8 +13,8 @@ returns-in-Ok-None g c =
     nothing_shown c.args.only c.args.span old now (g.O.Out.gone c.args.output.now) (g.O.Out.failures c.args.output.now)
     (subst (λ (start : Option Start). IsStart old now (Ok start) c.read_header.new.reader c.read_header.new.buffer) c.in-Ok-None.field-0-is c.in-Ok-None.ensures.start)
 
-pub returns-in-Err : goal.returns-in-Err
-returns-in-Err g c =
+pub returns : goal.returns
+returns g c =
     let old = g.R.Read.remaining c.args.input.now in
     let now = g.R.Read.remaining c.read_header.new.input in
     let gone = g.O.Out.gone c.args.output.now in
