@@ -249,6 +249,103 @@ def copied(bench):
         yield f"touches through a function of C, by {name}", None if well else said[-900:]
 
 
+ENDED = r"""#include <wdm.h>
+static IRP copy;
+static NTSTATUS Read(PDEVICE_OBJECT DeviceObject, PIRP Irp)
+{
+    UNREFERENCED_PARAMETER(DeviceObject);
+    UNREFERENCED_PARAMETER(copy);
+#ifdef RIGHT
+    TOUCHES;
+#endif
+    Irp->IoStatus.Status = STATUS_SUCCESS;
+    Irp->IoStatus.Information = 0;
+    IoCompleteRequest(Irp, IO_NO_INCREMENT);
+#ifndef RIGHT
+    TOUCHES;
+#endif
+    return STATUS_SUCCESS;
+}
+NTSTATUS DriverEntry(PDRIVER_OBJECT DriverObject, PUNICODE_STRING RegistryPath)
+{
+    PDEVICE_OBJECT device;
+    UNREFERENCED_PARAMETER(RegistryPath);
+    DriverObject->MajorFunction[IRP_MJ_READ] = Read;
+    return IoCreateDevice(DriverObject, 0, NULL, FILE_DEVICE_NULL, 0, FALSE, &device);
+}
+"""
+
+
+def ended(bench):
+    """An ended packet that is copied, or counted in by an interlocked call, is told by the driver's line, by whatever
+    program these functions are; before its end it isn't told."""
+    path = bench.folder("ended") + "/ended.c"
+    with open(path, "w", encoding="utf-8") as it:
+        it.write(ENDED)
+    line = max(n for n, text in enumerate(ENDED.splitlines(), 1) if "TOUCHES" in text)
+    ways = [("copied", "RtlCopyMemory(&copy,Irp,sizeof(IRP))"), ("counted in", "InterlockedIncrement((LONG*)&Irp->Flags)")]
+    for name, way in ways:
+        for how, words in ("real threads", ["--real"]), ("a schedule", ["--shake", "1"]):
+            said, status = ran(bench, *words, f"--cflag=-DTOUCHES={way}", path)
+            well = status == 1 and f"FAULT Touched (used after its end): ended.c:{line} in Read(" in said
+            yield f"an ended packet is {name}, by {how}", None if well else said[-900:]
+        said, status = ran(bench, "--shake", "1", "--cflag=-DRIGHT", f"--cflag=-DTOUCHES={way}", path)
+        yield f"a packet is {name} before its end", said[-900:] if status else None
+
+
+PASSES = r"""#include <wdm.h>
+typedef struct { PDEVICE_OBJECT Lower; } EXTENSION, *PEXTENSION;
+static NTSTATUS Pass(PDEVICE_OBJECT DeviceObject, PIRP Irp)
+{
+    IoSkipCurrentIrpStackLocation(Irp);
+    return IoCallDriver(((PEXTENSION)DeviceObject->DeviceExtension)->Lower, Irp);
+}
+static NTSTATUS Pnp(PDEVICE_OBJECT DeviceObject, PIRP Irp)
+{
+    PDEVICE_OBJECT lower = ((PEXTENSION)DeviceObject->DeviceExtension)->Lower;
+    const UCHAR minor = IoGetCurrentIrpStackLocation(Irp)->MinorFunction;
+    const NTSTATUS status = Pass(DeviceObject, Irp);
+    if (minor == IRP_MN_REMOVE_DEVICE) {
+        IoDetachDevice(lower);
+        IoDeleteDevice(DeviceObject);
+    }
+    return status;
+}
+static NTSTATUS AddDevice(PDRIVER_OBJECT DriverObject, PDEVICE_OBJECT Pdo)
+{
+    PDEVICE_OBJECT device;
+    NTSTATUS status = IoCreateDevice(DriverObject, sizeof(EXTENSION), NULL, FILE_DEVICE_UNKNOWN, 0, FALSE, &device);
+    if (!NT_SUCCESS(status))
+        return status;
+    ((PEXTENSION)device->DeviceExtension)->Lower = IoAttachDeviceToDeviceStack(device, Pdo);
+    device->Flags &= ~(ULONG)DO_DEVICE_INITIALIZING;
+    return STATUS_SUCCESS;
+}
+NTSTATUS DriverEntry(PDRIVER_OBJECT DriverObject, PUNICODE_STRING RegistryPath)
+{
+    UNREFERENCED_PARAMETER(RegistryPath);
+    for (int i = 0; i <= IRP_MJ_MAXIMUM_FUNCTION; i++)
+        if ((LEAVES >> i & 1) == 0)
+            DriverObject->MajorFunction[i] = i == IRP_MJ_PNP ? Pnp : Pass;
+    DriverObject->DriverExtension->AddDevice = AddDevice;
+    return STATUS_SUCCESS;
+}
+"""
+
+
+def dispatches(bench):
+    """Each dispatch that a driver lacks of those that have to pass on is told, whichever is asked for first; no other one."""
+    path = bench.folder("dispatches") + "/passes.c"
+    with open(path, "w", encoding="utf-8") as it:
+        it.write(PASSES)
+    majors = {"POWER": 1 << 22, "SYSTEM_CONTROL": 1 << 23, "PNP": 1 << 27}
+    for left in ((), ("POWER",), ("POWER", "SYSTEM_CONTROL"), ("PNP", "POWER"), tuple(majors)):
+        said, status = ran(bench, f"--cflag=-DLEAVES={sum(majors[it] for it in left)}", path)
+        told = re.findall(r"FAULT NotPassedDown .*? has no dispatch for IRP_MJ_(\w+),", said)
+        well = sorted(told) == sorted(left) and status == bool(left)
+        yield f"a driver without a dispatch for {' and '.join(left) or 'nothing'}", None if well else f"{told} {said[-700:]}"
+
+
 STARVED = r"""#include <wdm.h>
 #include "wdm_test.h"
 #include <pthread.h>

@@ -230,6 +230,64 @@ FAULTS = [
     stack("a list of who is allowed isn't freed", "journal.c",
           [("        ExFreePoolWithTag(Ext->Allowed, 'nruJ');\n", "        (void)0;\n")],
           ["PoolLeak", "journal.c:", "in AllowAll: never freed"]),
+    stack("own memory is freed while its packet is in flight", "reserve.c",
+          [("    SendHalf(ext, Irp, own);\n", "    SendHalf(ext, Irp, own);\n    ExFreePool(own);\n")],
+          ["InFlight", "reserve.c:", "in Read", "ExFreePool", "sent before at reserve.c:"], refused="InFlight"),
+    stack("a packet in own memory is freed by IoFreeIrp", "reserve.c", [("ExFreePoolWithTag(Irp, 'vseR');", "IoFreeIrp(Irp);")],
+          ["NotAllocated", "reserve.c:", "in HalfDone", "IoFreeIrp", "(reserve) initialized it at reserve.c:",
+           "ExFreePool"]),
+    stack("a packet is initialized while it is in flight", "reserve.c",
+          [("    SendHalf(ext, Irp, own);\n", "    SendHalf(ext, Irp, own);\n    IoInitializeIrp(own, IoSizeOfIrp(1), 1);\n")],
+          ["InFlight", "reserve.c:", "in Read", "IoInitializeIrp", "sent before at reserve.c:"], refused="InFlight"),
+    stack("a device is deleted with a packet in flight in its extension", "reserve.c",
+          [("        IoDeleteDevice(DeviceObject);\n",
+            "        static KEVENT done;\n        IoInitializeIrp(&ext->Spare.Irp, sizeof ext->Spare, 1);\n"
+            "        IoGetNextIrpStackLocation(&ext->Spare.Irp)->MajorFunction = IRP_MJ_READ;\n"
+            "        IoSetCompletionRoutine(&ext->Spare.Irp, FlushDone, &done, TRUE, TRUE, TRUE);\n"
+            "        IoCallDriver(ext->Lower, &ext->Spare.Irp);\n        IoDeleteDevice(DeviceObject);\n")],
+          ["InFlight", "in Pnp", "IoDeleteDevice", "sent before at reserve.c:"], refused="InFlight"),
+    stack("a packet is initialized in too few bytes", "reserve.c",
+          [("NonPagedPool, IoSizeOfIrp(ext->Lower->StackSize),", "NonPagedPool, sizeof(IRP),")],
+          ["PacketMemory", "reserve.c:", "in SendHalf", "IoInitializeIrp", "allocate IoSizeOfIrp(StackSize) bytes"]),
+    stack("a packet is initialized in paged pool", "reserve.c",
+          [("NonPagedPool, IoSizeOfIrp(ext->Lower->StackSize),", "PagedPool, IoSizeOfIrp(ext->Lower->StackSize),")],
+          ["PacketMemory", "reserve.c:", "in SendHalf", "IoInitializeIrp", "allocate it from NonPagedPool"]),
+    stack("a packet is initialized with no location", "reserve.c",
+          [("IoSizeOfIrp(locations), locations);", "IoSizeOfIrp(locations), 0);")],
+          ["BadSize", "reserve.c:", "in SendHalf", "IoInitializeIrp", "take the StackSize of the target"], refused="BadSize"),
+    stack("a packet in own memory isn't kept", "reserve.c",
+          [("    KeSetEvent(Context, IO_NO_INCREMENT, FALSE);\n    return STATUS_MORE_PROCESSING_REQUIRED;",
+            "    KeSetEvent(Context, IO_NO_INCREMENT, FALSE);\n    return STATUS_CONTINUE_COMPLETION;")],
+          ["NotKept", "no routine kept it for (reserve), which initialized it at reserve.c:"]),
+    stack("a packet lies on the stack of what has returned", "reserve.c",
+          [("    PIRP own = ExAllocatePoolWithTag(NonPagedPool, IoSizeOfIrp(ext->Lower->StackSize), 'vseR');\n",
+            "    UCHAR room[1000];\n    PIRP own = (PIRP)room;\n")],
+          ["StackBlock", "reserve.c:", "in SendHalf", "IoInitializeIrp", "lies on the stack of Read"]),
+    stack("what is cancelled stays in its device queue", "elevator.c",
+          [("    KeRemoveEntryDeviceQueue(&ext->Queue, &Irp->Tail.Overlay.DeviceQueueEntry);\n    IoReleaseCancelSpinLock(Irp->",
+            "    (void)ext;\n    IoReleaseCancelSpinLock(Irp->")],
+          ["NotOwner", "elevator.c:", "in Served", "IoSetCancelRoutine", "by D0 (elevator)"], refused="NotOwner", is_race=True),
+    stack("a level that was raised isn't lowered", "elevator.c", [("    KeLowerIrql(irql);\n", "    (void)irql;\n")],
+          ["IrqlReturn", "elevator.c:", "in Flush", "the level is raised here", "returns at DISPATCH_LEVEL"]),
+    stack("a deferred call is made by hand, and stays queued", "elevator.c",
+          [("    if (KeRemoveQueueDpc(&ext->Dpc))\n", "    if (ext->Current)\n")],
+          ["CompletedTwice", "elevator.c:", "in Served, called at elevator.c:", "completed before at common.h:"], is_race=True),
+    stack("a fast mutex is released that nobody took", "monitor.c",
+          [("!ExTryToAcquireFastMutex(&ext->Reporting)", "FALSE")],
+          ["NotAcquired", "monitor.c:", "in Report", "ExReleaseFastMutex"]),
+    stack("a fast mutex is kept", "monitor.c", [("    ExReleaseFastMutex(&ext->Reporting);\n", "")],
+          ["LockKept", "Report, dispatch for DEVICE_CONTROL of D0 (monitor)", "fast mutex"]),
+    stack("a section's handle is closed twice", "monitor.c",
+          [("    ZwClose(ext->Section);\n    IoDelete", "    ZwClose(ext->Section), ZwClose(ext->Section);\n    IoDelete")],
+          ["NotOpen", "monitor.c:", "in Unload", "ZwClose"]),
+    stack("a device for administrators is left", "monitor.c",
+          [("    ZwClose(ext->Section);\n    IoDeleteDevice(DriverObject->DeviceObject);\n", "    ZwClose(ext->Section);\n")],
+          ["LeftBehind", "monitor.c:", "in DriverEntry", "IoCreateDevice"]),
+    stack("a notification is left", "listener.c", [("    IoUnregisterPlugPlayNotification(ext->OnArrival);\n", "")],
+          ["LeftBehind", "listener.c:", "in DriverEntry", "IoRegisterPlugPlayNotification", "the notification is there"]),
+    stack("a notification is ended twice", "listener.c",
+          [("    IoUnregisterPlugPlayNotification(ext->OnArrival);\n", "    IoUnregisterPlugPlayNotification(ext->OnArrival);\n" * 2)],
+          ["NotRegistered", "listener.c:", "in Unload", "IoUnregisterPlugPlayNotification"]),
     stack("a cancel routine doesn't complete", "serial.c",
           [("    Complete(Irp, STATUS_CANCELLED, 0);\n}", "    (void)Irp;\n}")],
           ["CancelledAndHeld", "serial.c:57", "D0 (serial) still holds it", "its cancel routine has run",
@@ -319,12 +377,12 @@ RIGHT_SHAPES = """
     SkipDown ForwardUnmarked ForwardMarked MarkedRoutineSilent MarkedTwice ForwardNoRoutine OnErrorOnly
     OtherParameters ChangeUnmarked MarkThenComplete MarkAndSkip SetAndTakenBack LookInRoutine LookAndFinish
     LookAndSkip SkipByHand ForwardAndWait TimedWait WaitElsewhere WaitInVain ForwardSynchronously
-    MarkedSynchronously KeepChanged MarksAndKeeps Retry CompleteInRoutine ToAWorker WaitForAWorker OwnAndWait
+    MarkedSynchronously KeepChanged MarksAndKeeps Retry CompleteInRoutine ToAWorker WaitForAWorker OwnAndWait OnItsStack
     MarksByHand RoutineMarksByHand SplitTransfer SendElsewhere SkipElsewhere ElsewhereAndKeep BuiltForNobody
 """.split()
 # Stacks that the host's own test is clean over. The others have no PnP, or want settings that their tests make.
 FOR_OWN_TEST = ["handover", "keyboard", "children", "policy", "power", "removal", "split", "serial", "shared", "late",
-                "settings"]
+                "settings", "reserve"]
 
 # Drivers of hostile/ that the host stops after ten times its patience, so they have more seconds than others.
 SLOW_TO_STOP = {"polls": 40, "arms_again": 40}

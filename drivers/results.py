@@ -11,9 +11,9 @@ a driver takes a cancel routine out depends on who comes first: set_cancel_routi
 import collections
 import json
 
-MAJORS = {0: "CREATE", 2: "CLOSE", 3: "READ", 4: "WRITE", 14: "CONTROL", 18: "CLEANUP", 22: "POWER", 27: "PNP"}
+MAJORS = {0: "CREATE", 2: "CLOSE", 3: "READ", 4: "WRITE", 9: "FLUSH", 14: "CONTROL", 18: "CLEANUP", 22: "POWER", 27: "PNP"}
 STATUSES = {0: "SUCCESS", 0xC0000010: "INVALID_DEVICE_REQUEST", 0xC000009D: "DEVICE_NOT_CONNECTED",
-            0xC00000BB: "NOT_SUPPORTED", 0xC0000120: "CANCELLED"}
+            0xC00000BB: "NOT_SUPPORTED", 0xC0000120: "CANCELLED", 0x80000011: "DEVICE_BUSY"}
 
 
 def either(count, major, length):
@@ -46,6 +46,12 @@ RESULTS = {
     "settings": [(5, "PNP SUCCESS 0"), (3, "PNP NOT_SUPPORTED 0"), (3, "READ SUCCESS 0")],
     "mirror": [(4 + 2 * 4, "WRITE SUCCESS 8"), (2 * 2, "READ SUCCESS 8"), (2 * 2, "READ SUCCESS 9")],
     "journal": [(3, "WRITE SUCCESS 7")],
+    "reserve": [(8, "FLUSH SUCCESS 0"), (2, "PNP SUCCESS 0"),
+                *((2 * it.count(n), f"READ SUCCESS {n}") for it in [(2, 1, 1, 7, 4, 3, 40, 20, 20)] for n in sorted(set(it)))],
+    "elevator": [(9, "READ SUCCESS 4"), either(3, "READ", 4), (3, "FLUSH SUCCESS 0")],
+    "monitor": [*((2, f"WRITE SUCCESS {it}") for it in range(1, 5)), (1, "CONTROL SUCCESS 8"),
+                (8, "CONTROL SUCCESS 8", "CONTROL DEVICE_BUSY 0")],
+    "listener": [(6, "PNP SUCCESS 0"), (4, "CONTROL SUCCESS 0"), *((2, f"{it} SUCCESS 0") for it in ("CREATE", "CLEANUP", "CLOSE"))],
     "shared": [(16, "WRITE SUCCESS 0"), (8, "READ SUCCESS 4")]}
 
 # The manager's requests in "enumerate", twice: of each of three children four ids, capabilities twice and a start succeed,
@@ -71,6 +77,10 @@ ENTRIES = {
     "settings": (60, 60),     # 3; a start of 12; 6 requests of the manager of 5; 3 reads of 4; 3
     "mirror": (118, 118),     # 6; 4 writes of 5, with parts of 5 and 6; 4 reads of 5, with a packet of 7
     "journal": (14, 14),      # 1; 3 writes of 4; 1
+    "reserve": (160, 160),    # 2 of (3; 3 reads of 16, later 18; 2 flushes of 9; a removal of 8 with what it frees)
+    "elevator": (98, 101),    # 1; 3 of (3 reads of 7, one of 7 or 8, a flush of 4); 1
+    "monitor": (70, 70),      # 1; 8 writes and 9 controls of 4; 1
+    "listener": (90, 90),     # 2 of (4; a start of 12; an open, two controls, a cleanup and a close of 4; a removal of 7; 2)
     "shared": (98, 98)}       # 1; 24 requests of 4; 1
 
 

@@ -107,6 +107,8 @@ static NTSTATUS Any(PDEVICE_OBJECT DeviceObject, PIRP Irp)
     return End(DeviceObject, Irp, (ext->Style & WDM_BOTTOM_LATE) && IsTransfer(major), STATUS_SUCCESS, LengthOf(Irp));
 }
 
+VOID (*at_removal)(VOID);
+
 /* The device goes at once, whatever else is pended. */
 static NTSTATUS Pnp(PDEVICE_OBJECT DeviceObject, PIRP Irp)
 {
@@ -115,6 +117,8 @@ static NTSTATUS Pnp(PDEVICE_OBJECT DeviceObject, PIRP Irp)
     const BOOLEAN done = minor <= IRP_MN_CANCEL_STOP_DEVICE || minor == IRP_MN_QUERY_CAPABILITIES ||
         minor == IRP_MN_SURPRISE_REMOVAL;
     const BOOLEAN fails = (ext->Style & WDM_BOTTOM_NO_START) && minor == IRP_MN_START_DEVICE;
+    if (minor == IRP_MN_REMOVE_DEVICE && at_removal)
+        at_removal();
     const NTSTATUS status = fails ? STATUS_UNSUCCESSFUL : done ? STATUS_SUCCESS : BottomAnswer(DeviceObject, Irp);
     return End(DeviceObject, Irp, (ext->Style & WDM_BOTTOM_PENDS_ALL) && minor != IRP_MN_REMOVE_DEVICE, status,
                Irp->IoStatus.Information);

@@ -7,6 +7,8 @@
 /* Puts the answer into the packet's Information, where the question has one. Returns the packet's new status: its own
    where the device doesn't know the request. */
 NTSTATUS BottomAnswer(PDEVICE_OBJECT DeviceObject, PIRP Irp);
+/* Called by a bottom device in its IRP_MN_REMOVE_DEVICE, or NULL. */
+extern VOID (*at_removal)(VOID);
 /* Whether the bottom device has packets that it hasn't completed. */
 BOOLEAN bottom_holds(PDEVICE_OBJECT device);
 

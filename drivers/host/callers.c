@@ -104,6 +104,17 @@ const char *place_with_callers(WDM_SITE at, const Callers *kept)
     return text;
 }
 
+/* Whether it stands in a function that copies, fills, compares or counts for its caller: the C library's, or hooks.c's. */
+bool is_helper(const void *at)
+{
+    static const char *const begins[] = { "__mem", "__str", "wdm_", "__tsan_" };
+    const char *name = function_name(at);
+    for (size_t i = 0; i < sizeof begins / sizeof *begins; i++)
+        if (!strncmp(name, begins[i], strlen(begins[i])))
+            return true;
+    return false;
+}
+
 /* Where this thread is, or was where a handler interrupted it: into `at`, as far as its dispatch or routine. Returns how
    many places. */
 int where_is(bool in_handler, const void **at, int most)

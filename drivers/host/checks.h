@@ -69,6 +69,8 @@ void tell_block_touches(void);
 /* used.c, starting.c */
 void check_used(const void *object, const char *kind);
 Block *freed_block_of(const void *address); /* pool.c */
+const Block *block_around(const void *address);
+void free_checked(PVOID memory, ULONG tag, bool has_tag, WDM_SITE at);
 void open_pages(Block *b);                  /* pages.c */
 Block *block_in_pages(const void *address);
 void check_started(void);

@@ -35,7 +35,7 @@ static void end(Packet *p, Entry *e)
     hand_over_block((PVOID)p->information);
     if (is_associated(p))
         associated_ended(p);
-    else if (p->irp->UserIosb && !p->status_is_gone)
+    else if (p->irp->UserIosb && !p->status_is_gone && is_in_page(p->irp))
         *p->irp->UserIosb = p->irp->IoStatus;
     else if (!p->is_built)
         fault("NotKept", p, "has ended, and no routine kept it for %s", who_of(p, ORIGINATOR));

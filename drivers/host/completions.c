@@ -78,21 +78,33 @@ static void check_power(const Packet *p, const IO_STACK_LOCATION *l, int by, ULO
         broken("NotPassedDown", p, "%s completes IRP_MN_SET_POWER, and the drivers below haven't seen it", who(by));
 }
 
-/* Without a dispatch the I/O manager fails the request. A driver that stands on another one passes on what it doesn't handle
-   of these. */
-void check_dispatch_there(const Packet *p, int d, UCHAR major)
+static void tell_no_dispatch(const Packet *p, int d, UCHAR major)
 {
-    if (devices[d].lower < 0 || (major != IRP_MJ_PNP && major != IRP_MJ_POWER && major != IRP_MJ_SYSTEM_CONTROL))
-        return;
-    Call then = { .name = "IoCreateDevice", .at = devices[d].created };
+    /* not the call that sends it, which is another's; each major is told by itself */
+    Call then = { .name = "IoCreateDevice", .at = devices[d].created, .by = major_name(major) };
     Call *const calls = self.calls;
     Frame *const frames = self.frames;
-    self.calls = &then; /* not the call that sends it, which is another's */
+    self.calls = &then;
     self.frames = NULL;
     broken("NotPassedDown", p, "%s has no dispatch for IRP_MJ_%s, and the request never reaches %s: set "
            "MajorFunction[IRP_MJ_%s]", who(d), major_name(major), who(devices[d].lower), major_name(major));
     self.calls = calls;
     self.frames = frames;
+}
+
+/* Without a dispatch the I/O manager fails the request. A driver that stands on another one passes on what it doesn't handle
+   of these. With the first one that is missing the others are told, which may never be sent because of it. */
+void check_dispatch_there(const Packet *p, int d, UCHAR major)
+{
+    static const UCHAR passed_on[] = { IRP_MJ_PNP, IRP_MJ_POWER, IRP_MJ_SYSTEM_CONTROL };
+    static bool was_told[MAX_DEVICES];
+    if (devices[d].lower < 0 || (major != IRP_MJ_PNP && major != IRP_MJ_POWER && major != IRP_MJ_SYSTEM_CONTROL))
+        return;
+    tell_no_dispatch(p, d, major);
+    for (size_t i = 0; i < sizeof passed_on && !was_told[d]; i++)
+        if (passed_on[i] != major && !devices[d].driver->MajorFunction[passed_on[i]])
+            tell_no_dispatch(NULL, d, passed_on[i]);
+    was_told[d] = true;
 }
 
 /* A device that has the packet completes it. */

@@ -130,25 +130,6 @@ static void let_extension_go(int d, WDM_SITE at)
         let_go_of(devices[d].extension, devices[d].extension_size, "the extension of a device", at);
 }
 
-/* What may have kept a device keeps it no more. */
-void may_go(int d)
-{
-    if (devices[d].goes)
-        let_extension_go(d, devices[d].deleted);
-}
-
-void item_is_queued(int d)
-{
-    touch(&devices[d].items, SYNCS);
-    devices[d].items++;
-}
-
-void item_has_returned(int d)
-{
-    touch(&devices[d].items, SYNCS);
-    devices[d].items--;
-    may_go(d);
-}
 
 static void take_off_list(PDEVICE_OBJECT device)
 {
@@ -159,11 +140,36 @@ static void take_off_list(PDEVICE_OBJECT device)
         *at = device->NextDevice;
 }
 
+static void tell_gone(int d)
+{
+    if (!devices[d].goes)
+        check_gone(devices[d].raw->DeviceExtension, devices[d].raw->HostExtensionSize, gone_text(d));
+}
+
+/* A reference keeps the device: as in Windows it goes with the last one, and until then a request may come. The record has
+   the delete then. */
+static bool stays_for_now(int d)
+{
+    const Entry e = { .op = REMOVE, .device = d, .drained = true };
+    const char *no = rules_refusal(&e);
+    if (!is_referenced(devices[d].raw) || (no && strcmp(no, "InFlight")))
+        return false;
+    touch(&devices[d].items, SYNCS);
+    devices[d].stays = true;
+    devices[d].drained = lock_knows_drained(d);
+    devices[d].deleted = self.calls->at;
+    take_off_list(devices[d].raw);
+    forget_names(devices[d].raw);
+    return true;
+}
+
 static void delete_now(int d, const Frame *mine)
 {
+    if (stays_for_now(d))
+        return;
     Entry *e = begin(REMOVE, NULL, d);
     e->device = d;
-    e->drained = !devices[d].bound || lock_knows_drained(d);
+    e->drained = !devices[d].bound || devices[d].drained || lock_knows_drained(d);
     const char *no = rules_refusal(e);
     if (no && !strcmp(no, "InFlight") && is_in_open_entry(d)) {
         /* the history doesn't have that packet's descent yet, so this call isn't recorded */
@@ -181,7 +187,7 @@ static void delete_now(int d, const Frame *mine)
         let_extension_go(d, self.calls->at);
         forget_names(devices[d].raw);
         answered(e, DONE, 0);
-        check_gone(devices[d].raw->DeviceExtension, devices[d].raw->HostExtensionSize, gone_text(d));
+        tell_gone(d);
     }
 }
 
@@ -192,10 +198,38 @@ static void delete_late(int d)
     Frame *const mine = self.frames;
     self.calls = &c;
     self.frames = NULL;
-    devices[d].leaving = false;
+    devices[d].leaving = devices[d].stays = false;
     delete_now(d, mine);
     self.calls = c.up;
     self.frames = mine;
+}
+
+/* What may have kept a device keeps it no more. */
+void may_go(int d)
+{
+    Call c = { .up = self.calls, .name = "IoDeleteDevice", .at = devices[d].deleted };
+    touch(&devices[d].items, SYNCS);
+    if (devices[d].stays && !is_referenced(devices[d].raw))
+        delete_late(d);
+    else if (devices[d].goes) {
+        let_extension_go(d, devices[d].deleted);
+        self.calls = &c;
+        tell_gone(d);
+        self.calls = c.up;
+    }
+}
+
+void item_is_queued(int d)
+{
+    touch(&devices[d].items, SYNCS);
+    devices[d].items++;
+}
+
+void item_has_returned(int d)
+{
+    touch(&devices[d].items, SYNCS);
+    devices[d].items--;
+    may_go(d);
 }
 
 VOID WdmIoDetachDevice(PDEVICE_OBJECT Lower, WDM_SITE at)
@@ -328,7 +362,9 @@ VOID WdmIoDeleteDevice(PDEVICE_OBJECT Device, WDM_SITE at)
     if (devices[d].live && devices[d].lower < 0 && (devices[d].upper >= 0 || removing(d))) {
         devices[d].leaving = true;
         devices[d].deleted = at;
-    } else {
+    } else if (devices[d].stays)
+        fault("DeviceGone", NULL, "%s was deleted before, at %s", who(d), place(devices[d].deleted));
+    else if (!devices[d].live || !stays_for_now(d)) {
         if (devices[d].live && is_only_left_by_packets(d))
             wait_for_routines(d);
         delete_now(d, self.frames);

@@ -205,15 +205,55 @@ static void remove_by_surprise(PDEVICE_OBJECT bottom, PDEVICE_OBJECT top)
     end_asked(&asked);
 }
 
+/* A read that a driver elsewhere sends while IRP_MN_REMOVE_DEVICE is at the bottom. It has a reference to the device until
+   its call returns. */
+static struct { PDEVICE_OBJECT top; pthread_t thread; KEVENT has_returned; BOOLEAN is_begun, is_sent; Request read; } during;
+
+static void *read_during(void *unused)
+{
+    during.is_sent = start_request(&during.read, during.top, transfer(IRP_MJ_READ, 16), WITHOUT_FILE);
+    ObDereferenceObject(during.top);
+    KeSetEvent(&during.has_returned, IO_NO_INCREMENT, FALSE);
+    return unused;
+}
+
+static void removal_is_below(void)
+{
+    LARGE_INTEGER limit = { .QuadPart = -10000LL * PATIENT };
+    at_removal = NULL;
+    ObReferenceObject(during.top);
+    during.is_begun = !pthread_create(&during.thread, NULL, read_during, NULL);
+    if (during.is_begun)
+        KeWaitForSingleObject(&during.has_returned, Executive, KernelMode, FALSE, &limit);
+}
+
+/* Where each driver has a remove lock, a read comes meanwhile: it is what such locks are for. */
+static void unplug_while_read(PDEVICE_OBJECT bottom, PDEVICE_OBJECT top)
+{
+    during.top = top;
+    during.is_begun = during.is_sent = FALSE;
+    KeInitializeEvent(&during.has_returned, NotificationEvent, FALSE);
+    at_removal = removal_is_below;
+    WdmUnplug(bottom, FALSE);
+    at_removal = NULL;
+    if (during.is_begun)
+        pthread_join(during.thread, NULL);
+    if (during.is_sent)
+        end_request(&during.read, PATIENT);
+}
+
 /* Nobody has the device open. What is held in it is ended by its removal. */
-static void remove_in_order(PDEVICE_OBJECT bottom, PDEVICE_OBJECT top)
+static void remove_in_order(PDEVICE_OBJECT bottom, PDEVICE_OBJECT top, BOOLEAN is_read)
 {
     Asked asked;
     close_it(top);
     ask_without_file(&asked, bottom, top);
     set_power(top, IRP_MN_QUERY_POWER, PowerDeviceD3);
     set_power(top, IRP_MN_SET_POWER, PowerDeviceD3);
-    WdmUnplug(bottom, FALSE);
+    if (is_read && !getenv("WDM_FILES") && WdmHaveRemoveLocks(top, bottom))
+        unplug_while_read(bottom, top);
+    else
+        WdmUnplug(bottom, FALSE);
     end_asked(&asked);
 }
 
@@ -264,7 +304,7 @@ static void use_started(PDEVICE_OBJECT bottom, ULONG style, int threads)
     if (style == WDM_BOTTOM_LATE)
         remove_by_surprise(bottom, top);
     else
-        remove_in_order(bottom, top);
+        remove_in_order(bottom, top, !style);
 }
 
 static void use_stack(ULONG style, int threads)

@@ -131,7 +131,7 @@ static uint64_t normal(const void *object)
     const uintptr_t a = (uintptr_t)object;
     if (!main_stack)
         main_stack = (uintptr_t)__builtin_frame_address(0);
-    if (packet_page(object))
+    if (packet_name(object))
         return packet_name(object) << 12 | (a & (PAGE - 1));
     return a < main_stack + (1 << 16) && a > main_stack - (8 << 20) ? main_stack - a : a;
 }

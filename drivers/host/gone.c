@@ -1,10 +1,11 @@
-/* gone.c: memory that goes, a pool block or a deleted device's extension, with a timer, deferred call or lock in it. */
+/* gone.c: memory that goes, a pool block or a deleted device's extension, with a packet, timer, deferred call or lock in it. */
 #include "host.h"
 
 void check_gone(const void *from, size_t size, const char *what)
 {
     PKTIMER timer;
     PKDPC dpc;
+    packets_go(from, size);
     while ((timer = take_timer_in(from, size)))
         broken("TimerInFreedMemory", NULL, "the timer that was set at %s is armed, in the %s", place(timer->HostSet), what);
     while ((dpc = take_dpc_in(from, size)))

@@ -157,6 +157,7 @@ typedef struct {
 struct Packet {
     PIRP irp;
     int size, current, owner, last, allocator; /* allocator: a driver, or NOBODY */
+    int most; /* how many locations its memory has */
     unsigned long moved; /* host_activity when it was called for last, or somebody was asked about it */
     unsigned slot;
     uint64_t use, information;
@@ -193,6 +194,8 @@ struct Packet {
     uint64_t name; /* by the thread that allocated it, and how many that had allocated before */
     UCHAR major;   /* what was sent to the first device */
     CHAR stack_count;         /* what the packet says of itself */
+    Packet *older;            /* initialized.c: what was initialized before it there, or near */
+    const Frame *lies_with;   /* on the stack of which frame it was initialized, or NULL */
     IO_STACK_LOCATION *above; /* the locations of the devices above, as they left them; `left` has a bit for each */
     uint64_t left;
     Location at[MAX_SIZE + 2];
@@ -210,6 +213,8 @@ typedef struct {
     WDM_SITE deleted; /* where its delete was called that waits for the device above, or for what keeps its extension */
     int items;        /* its work items that are queued or run */
     bool goes;        /* it is deleted, and its extension goes with the last of these, and of the references to it */
+    bool stays;       /* it is to be deleted, which is put off until the last reference to it is back */
+    bool drained;     /* the thread that wanted it knew that its remove lock is drained */
 } Device;
 
 /* A call of the host that runs on this thread. */
@@ -339,24 +344,15 @@ bool is_bottom(PDEVICE_OBJECT device);
 bool timers_armed(void);
 ULONG next_new_timer(ULONG most);
 
-/* objects.c, mdl.c, start_io.c: what wdm_ob.h, wdm_mm.h and wdm_hw.h have */
-bool is_referenced(PVOID object);
-HANDLE new_handle(POBJECT_TYPE type, PVOID object);
-PVOID handle_object(HANDLE handle, POBJECT_TYPE type);
-void tell_references(void);
-void forget_names(PDEVICE_OBJECT device);
-void reinitialize(PDRIVER_OBJECT driver);
-void tell_files_dereferenced(PVOID object);
-PFILE_OBJECT file_for(PDEVICE_OBJECT top, UCHAR major);
-void give_mdl(Packet *p);
-void tell_locked_mdls(void);
-
 /* devices.c, packets.c, preparing.c */
 void delete_after(int device);
 PIO_STACK_LOCATION raw_at(Packet *p, int j);
 Packet *find(PIRP irp);
 Packet *new_packet(int size, PIRP irp);
 bool lives(const Packet *p);
+void begin_use(Packet *p, NTSTATUS status);
+void use_again(Packet *p, NTSTATUS status);
+void free_now(Packet *p);
 Frame *on_top(const Packet *p);
 int party(const Packet *p);
 int party_with_location(const Packet *p);
@@ -374,10 +370,6 @@ void take_hand_skip(Packet *p);
 void take_hand_mark(Packet *p);
 void tell_ghost(Packet *p);
 
-/* associated.c */
-bool is_associated(const Packet *p);
-void associated_ended(Packet *p);
-
 /* settling.c, sending.c, completion.c, in_place.c */
 void settle(Packet *p, bool returned);
 void take_kept_answer(Packet *p, Frame *f);
@@ -393,16 +385,6 @@ void rider_came_up(Packet *rider, Entry *e);
 bool dispatch_has_it_back(Packet *p, Frame *routine);
 bool will_wait(const Packet *p, const Frame *dispatch);
 NTSTATUS forward_in_place(Packet *p, int device);
-
-/* traps.c, remove_locks.c */
-void open_traps(void);
-void protect(Packet *p);
-void shut(Packet *p);
-void unprotect(Packet *p);
-void tell_touch(const char *call, PIRP irp);
-void tell_all_touches(void);
-bool lock_knows_drained(int device);
-const char *held_tags(int device);
 
 #include "checks.h"
 #include "placing.h"

@@ -29,6 +29,14 @@ static void spin(PKSPIN_LOCK lock, ULONG_PTR mine, const char *name, WDM_SITE at
     }
 }
 
+/* The place is kept where the level changes. */
+static void set_level(KIRQL irql, WDM_SITE at)
+{
+    if (self.irql != irql)
+        self.raised = at;
+    self.irql = irql;
+}
+
 KIRQL take_spin_lock(PKSPIN_LOCK lock, LockKind kind, const char *name, WDM_SITE at)
 {
     Call c;
@@ -44,8 +52,7 @@ KIRQL take_spin_lock(PKSPIN_LOCK lock, LockKind kind, const char *name, WDM_SITE
         lock_taken(lock, kind, at, old);
         pthread_mutex_unlock(&host_lock);
     }
-    self.raised = at;
-    self.irql = old < DISPATCH_LEVEL ? DISPATCH_LEVEL : old;
+    set_level(old < DISPATCH_LEVEL ? DISPATCH_LEVEL : old, at);
     close_paged();
     return old;
 }
@@ -65,13 +72,16 @@ bool give_spin_lock(PKSPIN_LOCK lock, LockKind kind, const char *name, KIRQL irq
     Call c;
     enter_host(&c, name, at);
     hands_over();
+    int seat;
+    const Hold *h = holder_of(lock, &seat);
+    const bool is_right = h && h->before == irql;
     if (lowers)
         check_release_level(lock, irql);
     const bool given = lock_given_back(lock, kind);
-    if (given && lowers) {
-        self.irql = irql;
+    if (given && lowers && !is_right)
         self.raised = at;
-    }
+    if (given && lowers)
+        set_level(irql, at);
     touch(lock, SYNCS);
     leave_host();
     if (given)
@@ -108,9 +118,8 @@ VOID WdmKeRaiseIrql(KIRQL New, PKIRQL Old, WDM_SITE at)
     if (New < self.irql)
         broken("RaiseLower", NULL, "raised to %s, below %s", level_name(New), level_name(self.irql));
     *Old = self.irql;
-    self.irql = New;
+    set_level(New, at);
     close_paged();
-    self.raised = at;
     leave_host();
 }
 
@@ -122,12 +131,21 @@ VOID WdmKeLowerIrql(KIRQL Irql, WDM_SITE at)
     if (Irql > self.irql || (h && Irql < DISPATCH_LEVEL))
         broken("RaiseLower", NULL, "lowered to %s, from %s%s%s", level_name(Irql), level_name(self.irql),
                h ? " with a spin lock held since " : "", h ? place(h->at) : "");
-    self.irql = Irql;
-    self.raised = at;
+    set_level(Irql, at);
     leave_host();
 }
 
 VOID WdmPagedCode(WDM_SITE at) { check_wait("PAGED_CODE", at); }
+
+static void fast_mutex_taken(PFAST_MUTEX mutex, WDM_SITE at)
+{
+    pthread_mutex_lock(&host_lock);
+    lock_taken(mutex, FAST_LOCK, at, self.irql);
+    pthread_mutex_unlock(&host_lock);
+    mutex->OldIrql = self.irql;
+    if (self.irql < APC_LEVEL)
+        set_level(APC_LEVEL, at);
+}
 
 /* A fast mutex isn't recursive, and whoever holds it is at APC_LEVEL. */
 VOID WdmExAcquireFastMutex(PFAST_MUTEX Mutex, WDM_SITE at)
@@ -141,12 +159,23 @@ VOID WdmExAcquireFastMutex(PFAST_MUTEX Mutex, WDM_SITE at)
         return;
     PVOID object = &Mutex->Mutex;
     wait_for_objects(1, &object, WaitAny, NULL, at);
-    pthread_mutex_lock(&host_lock);
-    lock_taken(Mutex, FAST_LOCK, at, self.irql);
-    pthread_mutex_unlock(&host_lock);
-    Mutex->OldIrql = self.irql;
-    if (self.irql < APC_LEVEL)
-        self.irql = APC_LEVEL;
+    fast_mutex_taken(Mutex, at);
+}
+
+/* Nor may its holder have it again by a try. */
+BOOLEAN WdmTryToAcquireFastMutex(PFAST_MUTEX Mutex, WDM_SITE at)
+{
+    Call c;
+    int seat = -1;
+    PVOID object = &Mutex->Mutex;
+    enter_host(&c, "ExTryToAcquireFastMutex", at);
+    check_used(Mutex, "fast mutex");
+    const bool is_mine = holder_of(Mutex, &seat) && seat == self.seat;
+    leave_host();
+    if (is_mine || wait_for_objects(1, &object, WaitAny, &(LARGE_INTEGER){ .QuadPart = 0 }, at) != STATUS_SUCCESS)
+        return FALSE;
+    fast_mutex_taken(Mutex, at);
+    return TRUE;
 }
 
 VOID WdmExReleaseFastMutex(PFAST_MUTEX Mutex, WDM_SITE at)
@@ -164,10 +193,10 @@ VOID WdmExReleaseFastMutex(PFAST_MUTEX Mutex, WDM_SITE at)
         self.irql = old;
 }
 
-KIRQL KeRaiseIrqlToDpcLevel(VOID)
+KIRQL WdmKeRaiseIrqlToDpcLevel(WDM_SITE at)
 {
     KIRQL old;
-    WdmKeRaiseIrql(DISPATCH_LEVEL, &old, (WDM_SITE){ 0 });
+    WdmKeRaiseIrql(DISPATCH_LEVEL, &old, at);
     return old;
 }
 

@@ -13,7 +13,7 @@ static void tell_devices(int driver)
 {
     char text[100];
     for (int i = 0; i < n_devices; i++)
-        if (devices[i].live && !devices[i].leaving && devices[i].driver->HostNumber == driver) {
+        if (devices[i].live && !devices[i].leaving && !devices[i].stays && devices[i].driver->HostNumber == driver) {
             snprintf(text, sizeof text, "the device %s", who(i));
             left_behind(text, "IoCreateDevice", devices[i].created);
         }
@@ -23,8 +23,11 @@ static void tell_own_packets(int driver)
 {
     for (int i = 0; i < n_packets; i++) {
         const Packet *p = packets[i];
-        if (p->live && p->owner != ENDED && p->allocator == driver && !p->is_built && !p->rides)
-            fault_at(RULE, p, "IoAllocateIrp", p->sites.allocated, "the packet is there after DriverUnload");
+        const bool is_allocated = is_in_page(p->irp), is_idle = p->owner < 0 && !p->asking;
+        if (p->live && p->owner != ENDED && p->allocator == driver && !p->is_built && !p->rides &&
+            (is_allocated || !is_idle)) /* its own memory is told of by itself */
+            fault_at(RULE, p, is_allocated ? "IoAllocateIrp" : "IoInitializeIrp", p->sites.allocated,
+                     "the packet is there after DriverUnload");
     }
 }
 

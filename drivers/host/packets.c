@@ -120,7 +120,7 @@ void take_hand_mark(Packet *p)
     set_pending_bit(p, f->location, true);
 }
 
-static void begin_use(Packet *p, NTSTATUS status)
+void begin_use(Packet *p, NTSTATUS status)
 {
     for (int j = 1; j <= p->size; j++)
         clear_location(p, j);
@@ -132,7 +132,7 @@ static void begin_use(Packet *p, NTSTATUS status)
     p->irp->IoStatus.Status = status;
     p->current = p->size + 1;
     put_back(p);
-    p->irp->AllocationFlags = IRP_ALLOCATED_FIXED_SIZE;
+    p->irp->AllocationFlags = is_in_page(p->irp) ? IRP_ALLOCATED_FIXED_SIZE : 0;
     p->owner = p->last = ORIGINATOR;
     p->status = (ULONG)status;
     p->information = 0;
@@ -153,7 +153,7 @@ Packet *new_packet(int size, PIRP irp)
     Packet *p = calloc(1, sizeof *p);
     if (!p)
         give_up("out of memory");
-    p->size = size;
+    p->size = p->most = size;
     p->slot = (unsigned)n_packets;
     p->live = true;
     p->irp = irp;
@@ -190,7 +190,7 @@ PIRP WdmIoAllocateIrp(CCHAR Size, WDM_SITE at)
     return p ? p->irp : NULL;
 }
 
-static void free_now(Packet *p)
+void free_now(Packet *p)
 {
     p->live = false;
     n_live--;
@@ -204,9 +204,12 @@ static void free_now(Packet *p)
     p->direct = NULL;
 }
 
-/* The I/O manager's free of a packet that ended. It is put off, so that a late call finds it ended. */
+/* The I/O manager's free of a packet that ended. It is put off, so that a late call finds it ended. A driver's own memory
+   is the driver's to free. */
 void free_ended(Packet *p)
 {
+    if (!is_in_page(p->irp))
+        return;
     Packet **kept = &ended[n_ended++ % ENDED_KEPT];
     if (*kept && (*kept)->owner == ENDED && (*kept)->live) {
         answered(begin(FREE, *kept, ORIGINATOR), DONE, 0);
@@ -226,7 +229,10 @@ VOID WdmIoFreeIrp(PIRP Irp, WDM_SITE at)
     const char *no = rules_refusal(e);
     if (no)
         refuse(e, no);
-    else {
+    else if (!is_in_page(p->irp)) {
+        free(e);
+        free_initialized(p, at);
+    } else {
         if (p->owner == ENDED)
             fault("NotKept", p, "is freed after it has ended at %s: no routine kept it for %s",
                   place_with_callers(p->sites.completed, &p->completers), who_of(p, ORIGINATOR));
@@ -238,6 +244,22 @@ VOID WdmIoFreeIrp(PIRP Irp, WDM_SITE at)
     leave_host();
 }
 
+/* The packet is used anew, which is refused while it is in flight. Under G. */
+void use_again(Packet *p, NTSTATUS status)
+{
+    Entry *e = begin(REUSE, p, ORIGINATOR);
+    e->status = (ULONG)status;
+    const char *no = rules_refusal(e);
+    if (no) {
+        refuse(e, no);
+        return;
+    }
+    unprotect(p);
+    begin_use(p, status);
+    e->word = p->use;
+    answered(e, IRP_REF, 0);
+}
+
 VOID WdmIoReuseIrp(PIRP Irp, NTSTATUS Status, WDM_SITE at)
 {
     Call c;
@@ -245,17 +267,7 @@ VOID WdmIoReuseIrp(PIRP Irp, NTSTATUS Status, WDM_SITE at)
     Packet *p = find(Irp);
     if (lives(p) && p->asking)
         settle(p, false);
-    Entry *e = begin(REUSE, p, ORIGINATOR);
-    e->status = (ULONG)Status;
-    const char *no = rules_refusal(e);
-    if (no)
-        refuse(e, no);
-    else {
-        unprotect(p);
-        begin_use(p, Status);
-        e->word = p->use;
-        answered(e, IRP_REF, 0);
-    }
+    use_again(p, Status);
     leave_host();
 }
 

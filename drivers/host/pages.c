@@ -160,13 +160,6 @@ bool touched_block(void *address)
     return !mprotect(arena + (size_t)(at - arena) / PAGE * PAGE, PAGE, PROT_READ | PROT_WRITE);
 }
 
-/* Whether it stands in a function that copies, fills or compares for its caller. */
-static bool is_helper(const void *at)
-{
-    const char *name = function_name(at);
-    return !strncmp(name, "__mem", 5) || !strncmp(name, "__str", 5) || !strncmp(name, "wdm_", 4);
-}
-
 /* Where the program touched it: the place by which a touch is the same as another. */
 static const void *place_of_touch(const Callers *by)
 {

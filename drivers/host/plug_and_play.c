@@ -207,7 +207,7 @@ static void check_deleted(PDEVICE_OBJECT child)
     Call c;
     enter_host(&c, "IRP_MN_REMOVE_DEVICE", (WDM_SITE){ 0 });
     const int d = known_device(child);
-    if (d >= 0 && devices[d].live && !devices[d].leaving)
+    if (d >= 0 && devices[d].live && !devices[d].leaving && !devices[d].stays)
         fault("Relations", NULL, "%s isn't reported any more and was removed, and its device object is still there", who(d));
     leave_host();
 }

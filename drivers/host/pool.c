@@ -107,6 +107,16 @@ Block *freed_block_of(const void *address)
     return NULL;
 }
 
+/* The block that the address lies in, and that isn't freed; or NULL. */
+const Block *block_around(const void *address)
+{
+    for (int i = 0; i < BUCKETS; i++)
+        for (const Block *b = buckets[i]; b; b = b->next)
+            if (!b->freed && (const char *)address >= b->bytes && (const char *)address < b->bytes + b->size)
+                return b;
+    return NULL;
+}
+
 /* A block, or NULL. Under G. */
 Block *new_block(size_t size, ULONG tag, ULONG kind, WDM_SITE at)
 {
@@ -235,8 +245,8 @@ PVOID WdmAllocatePool(ULONG Kind, SIZE_T Bytes, ULONG Tag, WDM_SITE at)
     return b ? b->bytes : NULL;
 }
 
-/* Frees a block whose pointer is right; else says what is wrong. */
-static void free_checked(PVOID memory, ULONG tag, bool has_tag, WDM_SITE at)
+/* Frees a block whose pointer is right, and in which no packet is in flight; else says what is wrong. */
+void free_checked(PVOID memory, ULONG tag, bool has_tag, WDM_SITE at)
 {
     Block *b = find_block(memory);
     if (!b || b->is_buffer)
@@ -249,6 +259,10 @@ static void free_checked(PVOID memory, ULONG tag, bool has_tag, WDM_SITE at)
             check_call(&paged);
         if (has_tag && tag && b->tag && tag != b->tag)
             broken("WrongTag", NULL, "freed with tag '%s': the %s", tag_text(tag), block_text(b));
+        if (packets_go(b->bytes, b->size)) {
+            b->driver = NOBODY; /* what is in flight there is used yet */
+            return;
+        }
         count_place(b->allocated, -1);
         free_block(b, at);
     }

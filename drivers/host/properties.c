@@ -7,7 +7,7 @@ typedef struct { UNICODE_STRING name, target; PDEVICE_OBJECT device; const GUID 
 typedef struct { PDEVICE_OBJECT device; DEVPROPKEY key; DEVICE_REGISTRY_PROPERTY property; DEVPROPTYPE type; ULONG size;
                  PVOID data; bool is_keyed; } Property;
 typedef struct { IO_NOTIFICATION_EVENT_CATEGORY category; GUID class; PFILE_OBJECT file;
-                 PDRIVER_NOTIFICATION_CALLBACK_ROUTINE routine; PVOID context; } Registration;
+                 PDRIVER_NOTIFICATION_CALLBACK_ROUTINE routine; PVOID context; int driver; WDM_SITE made; } Registration;
 static Name names[MAX_NAMES];
 static Property properties[MAX_NAMES];
 static Registration registrations[64];
@@ -87,6 +87,12 @@ void tell_links_left(int driver)
     for (int i = 0; i < n_names; i++)
         if (names[i].name.Buffer && names[i].made.file && names[i].driver == driver)
             left_behind("the symbolic link", "IoCreateSymbolicLink", names[i].made);
+    touch(&registrations, WRITES);
+    for (int i = 0; i < 64; i++)
+        if (registrations[i].routine && registrations[i].driver == driver) {
+            left_behind("the notification", "IoRegisterPlugPlayNotification", registrations[i].made);
+            registrations[i].routine = NULL;
+        }
 }
 
 NTSTATUS IoDeleteSymbolicLink(PUNICODE_STRING Link)
@@ -213,26 +219,27 @@ NTSTATUS WdmIoGetDeviceInterfaces(const GUID *Class, PDEVICE_OBJECT Device, ULON
     return text ? STATUS_SUCCESS : STATUS_INSUFFICIENT_RESOURCES;
 }
 
-NTSTATUS IoRegisterPlugPlayNotification(IO_NOTIFICATION_EVENT_CATEGORY Category, ULONG Flags, PVOID Data,
-                                        PDRIVER_OBJECT Driver, PDRIVER_NOTIFICATION_CALLBACK_ROUTINE Routine,
-                                        PVOID Context, PVOID *Entry)
+NTSTATUS WdmRegisterNotification(IO_NOTIFICATION_EVENT_CATEGORY Category, ULONG Flags, PVOID Data, PDRIVER_OBJECT Driver,
+                                 PDRIVER_NOTIFICATION_CALLBACK_ROUTINE Routine, PVOID Context, PVOID *Entry, WDM_SITE at)
 {
-    int at = 0;
-    (void)Driver;
-    hold_host("IoRegisterPlugPlayNotification", &registrations, WRITES);
+    Call c;
+    int i = 0;
+    enter_host(&c, "IoRegisterPlugPlayNotification", at);
+    touch(&registrations, WRITES);
     touch(&names, READS);
-    while (at < 64 && registrations[at].routine)
-        at++;
-    if (at < 64) {
-        registrations[at] = (Registration){ .category = Category, .routine = Routine, .context = Context };
+    while (i < 64 && registrations[i].routine)
+        i++;
+    if (i < 64) {
+        registrations[i] = (Registration){ .category = Category, .routine = Routine, .context = Context,
+                                           .driver = Driver->HostNumber, .made = at };
         if (Category == EventCategoryDeviceInterfaceChange)
-            registrations[at].class = *(const GUID *)Data;
+            registrations[i].class = *(const GUID *)Data;
         else
-            registrations[at].file = Data;
-        *Entry = &registrations[at];
+            registrations[i].file = Data;
+        *Entry = &registrations[i];
     }
-    pthread_mutex_unlock(&host_lock);
-    if (at == 64)
+    leave_host();
+    if (i == 64)
         return STATUS_INSUFFICIENT_RESOURCES;
     for (int i = 0; i < n_names && (Flags & PNPNOTIFY_DEVICE_INTERFACE_INCLUDE_EXISTING_INTERFACES); i++)
         if (names[i].is_enabled && names[i].class && !memcmp(names[i].class, Data, sizeof(GUID))) {
@@ -243,19 +250,36 @@ NTSTATUS IoRegisterPlugPlayNotification(IO_NOTIFICATION_EVENT_CATEGORY Category,
     return STATUS_SUCCESS;
 }
 
-NTSTATUS IoUnregisterPlugPlayNotification(PVOID Entry)
+NTSTATUS WdmUnregisterNotification(PVOID Entry, WDM_SITE at)
 {
-    hold_host("IoUnregisterPlugPlayNotification", &registrations, WRITES);
-    ((Registration *)Entry)->routine = NULL;
-    pthread_mutex_unlock(&host_lock);
+    Call c;
+    Registration *r = Entry;
+    enter_host(&c, "IoUnregisterPlugPlayNotification", at);
+    touch(&registrations, WRITES);
+    if (r < registrations || r >= registrations + 64 || !r->routine)
+        fault("NotRegistered", NULL, "this notification isn't registered, or not any more");
+    else
+        r->routine = NULL;
+    leave_host();
     return STATUS_SUCCESS;
+}
+
+/* Whether the file was opened on a device of this one's stack. */
+static bool is_on_stack(const FILE_OBJECT *file, PDEVICE_OBJECT device)
+{
+    int a = device_number(file->DeviceObject), b = device_number(device);
+    while (devices[a].lower >= 0)
+        a = devices[a].lower;
+    while (devices[b].lower >= 0)
+        b = devices[b].lower;
+    return a == b;
 }
 
 NTSTATUS IoReportTargetDeviceChange(PDEVICE_OBJECT Device, PVOID Notification)
 {
     for (int i = 0; i < 64; i++) {
         const Registration r = registration_at(i);
-        if (r.routine && r.category == EventCategoryTargetDeviceChange && r.file && r.file->DeviceObject == Device)
+        if (r.routine && r.category == EventCategoryTargetDeviceChange && r.file && is_on_stack(r.file, Device))
             r.routine(Notification, r.context);
     }
     return STATUS_SUCCESS;

@@ -10,6 +10,14 @@ const char *const op_names[] = { "create_device", "attach", "detach", "delete", 
     "copy_to_next", "skip", "set_routine", "mark_pending", "call_driver", "complete", "set_cancel_routine", "cancel",
     "look" };
 
+/* A device that kept or finished the packet may have been detached since it was asked: the entry comes behind that. */
+static void look_below(Entry *e)
+{
+    for (int i = 0; i < e->n; i++)
+        if (e->asked[i].kind == DISPATCH && (e->asked[i].plan == FINISH || e->asked[i].plan == HOLD))
+            e->asked[i].has_lower = devices[e->asked[i].device].lower >= 0;
+}
+
 /* A new entry, which isn't in the history yet. */
 Entry *begin(Op op, Packet *p, int by)
 {
@@ -36,6 +44,7 @@ void seal(Entry *e, bool cancel)
         if (!history)
             give_up("out of memory");
     }
+    look_below(e);
     e->cancel = cancel;
     e->sealed = true;
     e->number = n_history;
@@ -115,18 +124,19 @@ int ask(Entry *e, Packet *p, Kind kind, void *fn, int device, int location)
     return e->n++;
 }
 
-/* What a packet looks like, from its own memory: recorded at the end of each use, for the judge to compare. */
+/* What a packet looks like, from its own memory: recorded at the end of each use, for the judge to compare. Where a
+   driver's own memory was kept, the driver may have freed that by now. */
 void look(Packet *p)
 {
     Entry *e = begin(LOOK, p, ORIGINATOR);
-    bool ended = p->owner == ENDED;
+    const bool ended = p->owner == ENDED, may_be_gone = !ended && !is_in_page(p->irp);
     e->seen.owner = p->owner;
     e->seen.current = p->current;
     e->seen.status = ended ? (ULONG)p->irp->IoStatus.Status : p->status;
     e->seen.information = ended ? p->irp->IoStatus.Information : p->information;
-    e->seen.cancel = p->irp->Cancel;
+    e->seen.cancel = may_be_gone ? p->cancel : p->irp->Cancel;
     e->seen.routine = p->routine;
-    e->seen.returned = p->irp->PendingReturned;
+    e->seen.returned = may_be_gone ? p->returned : p->irp->PendingReturned;
     answered(e, SEEN, 0);
 }
 

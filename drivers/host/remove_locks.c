@@ -13,6 +13,16 @@ static Lock locks[MAX_LOCKS];
 
 static bool is_devices(int lock) { return lock < MAX_DEVICES; }
 
+BOOLEAN WdmHaveRemoveLocks(PDEVICE_OBJECT Top, PDEVICE_OBJECT Bottom)
+{
+    bool have = true;
+    hold_host("remove locks are looked up", &devices, READS);
+    for (int d = device_number(Top); d >= 0 && devices[d].raw != Bottom; d = devices[d].lower)
+        have &= devices[d].bound;
+    pthread_mutex_unlock(&host_lock);
+    return have;
+}
+
 static const char *lock_name(int lock)
 {
     static _Thread_local char text[200];

@@ -24,6 +24,9 @@ NTSTATUS make_request(PDEVICE_OBJECT top, What what, How how, int milliseconds);
 NTSTATUS set_power(PDEVICE_OBJECT top, UCHAR minor, DEVICE_POWER_STATE state);
 NTSTATUS set_system_power(PDEVICE_OBJECT top, UCHAR minor, SYSTEM_POWER_STATE state);
 
+/* Whether each device from this one down to the bottom one has a remove lock that was acquired. */
+BOOLEAN WdmHaveRemoveLocks(PDEVICE_OBJECT Top, PDEVICE_OBJECT Bottom);
+
 /* Tells a driver that still holds it, where IRP_MN_SURPRISE_REMOVAL is over. */
 VOID WdmTellKept(PIRP Irp);
 

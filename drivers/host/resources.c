@@ -146,12 +146,6 @@ VOID ExConvertExclusiveToSharedLite(PERESOURCE Resource)
     pthread_mutex_unlock(&host_lock);
 }
 
-BOOLEAN WdmTryToAcquireFastMutex(PFAST_MUTEX Mutex, WDM_SITE at)
-{
-    LARGE_INTEGER now = { .QuadPart = 0 };
-    return WdmKeWaitForSingleObject(&Mutex->Mutex, &now, at) == STATUS_SUCCESS;
-}
-
 VOID ExInitializeRundownProtection(PEX_RUNDOWN_REF Ref)
 {
     memset(Ref, 0, sizeof *Ref);

@@ -14,7 +14,7 @@ static int n_locals, n_reused;
 static pthread_mutex_t locals_lock = PTHREAD_MUTEX_INITIALIZER;
 
 /* In the call of which frame of this thread the address lies on its stack, or NULL. */
-static const Frame *frame_of(const void *at)
+const Frame *frame_around(const void *at)
 {
     const Frame *f = self.frames;
     if ((const char *)at < (const char *)__builtin_frame_address(0))
@@ -29,7 +29,7 @@ static bool is_over(const Blocks *b) { return !lives(b->p) || b->p->use != b->us
 /* A packet was built on this thread. */
 void remember_blocks(Packet *p)
 {
-    const Blocks new = { p, p->use, frame_of(p->irp->UserIosb), frame_of(p->irp->UserEvent) };
+    const Blocks new = { p, p->use, frame_around(p->irp->UserIosb), frame_around(p->irp->UserEvent) };
     for (int i = 0; i < n_blocks; i++)
         if (is_over(&blocks[i]))
             blocks[i--] = blocks[--n_blocks];
@@ -49,7 +49,7 @@ static Local *local_at(const void *event)
 void remember_event(const void *event)
 {
     pthread_mutex_lock(&locals_lock);
-    const Frame *f = frame_of(event);
+    const Frame *f = frame_around(event);
     Local *l = local_at(event);
     if (!l && f)
         l = &locals[n_locals < MOST ? n_locals++ : n_reused++ % MOST];
@@ -87,6 +87,7 @@ bool is_over_event(const void *event)
 void check_blocks(const Frame *f)
 {
     events_are_over(f);
+    stack_goes(f);
     for (int i = 0; i < n_blocks; i++) {
         const Blocks b = blocks[i];
         if (is_over(&b) || (b.status_of != f && b.event_of != f))

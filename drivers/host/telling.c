@@ -61,18 +61,20 @@ void say(const char *how, ...)
 
 static const struct { const char *rule, *known; } known_as[] = {
     { "CompletedTwice", "0x44" }, { "Ended", "its use was completed" }, { "TooShort", "0x35" },
-    { "BadStatus", "Driver Verifier 0xC9 / 6" },
+    { "BadStatus", "Driver Verifier 0xC9 / 6" }, { "BadSize", "take the StackSize of the target, 1 to 32" },
     { "CancelRoutineSet", "0x48" }, { "InFlight", "memory freed in use" }, { "NotDrained", "RemoveLock rules" },
     { "NotHeld", "RemoveLock rules" }, { "AlreadyRemoving", "RemoveLock rules" },
     { "Status", "not the packet's status" },
     { "Returned", "rules MarkIrpPending, PendedCompletedRequest" }, { "MarkedLate", "rule PendedCompletedRequest" },
-    { "Mark", "if (Irp->PendingReturned) IoMarkIrpPending(Irp)" }, { "NoIrp", "used after IoFreeIrp" },
+    { "Mark", "if (Irp->PendingReturned) IoMarkIrpPending(Irp)" }, { "NoIrp", "used after its free" },
     { "Touched", "used after its end" }, { "NotOwner", "somebody else has the packet" },
     { "NotPrepared", "the next location isn't filled" }, { "AfterSkip", "the location is the driver's below" },
     { "AlreadyCancelled", "if (Irp->Cancel && IoSetCancelRoutine(Irp, NULL)) complete it" },
     { "CancelledAndHeld", "nobody ends it" },
     { "Overwritten", "only the I/O manager writes there" },
-    { "StackBlock", "what lies there is another's by then" }, { "NoLocation", "whoever allocated it has no location" },
+    { "StackBlock", "what lies there is another's by then" }, { "NotAllocated", "who allocates memory frees it" },
+    { "PacketMemory", "packets take IoSizeOfIrp(StackSize) nonpaged bytes" },
+    { "NoLocation", "whoever allocated it has no location" },
 };
 
 static const char *expected[64];
@@ -139,7 +141,8 @@ const char *who_of(const Packet *p, int device)
     if (p->allocator < 0 || p->is_built)
         snprintf(text, 200, "its originator (built at %s)", place(p->sites.allocated));
     else
-        snprintf(text, 200, "(%s), which allocated it at %s", drivers[p->allocator]->HostName, place(p->sites.allocated));
+        snprintf(text, 200, "(%s), which %s it at %s", drivers[p->allocator]->HostName,
+                 is_in_page(p->irp) ? "allocated" : "initialized", place(p->sites.allocated));
     return text;
 }
 

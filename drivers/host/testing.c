@@ -320,7 +320,7 @@ static void tell_leftovers(void)
         else if (lives(p) && p->owner >= 0)
             note("at the end", "IRP %u.%lu, sent at %s, is still held by %s", p->slot, (unsigned long)p->use,
                  place(p->sites.sent), who(p->owner));
-        else if (lives(p) && p->allocator != NOBODY && !p->asking)
+        else if (lives(p) && p->allocator != NOBODY && !p->asking && is_in_page(p->irp))
             note("at the end", "IRP %u.%lu, allocated at %s, was never freed", p->slot, (unsigned long)p->use,
                  place(p->sites.allocated));
     }

@@ -1,4 +1,4 @@
-/* told.h: what is told of a run that ends badly, and of what a driver has left or written over. */
+/* told.h: what is told of a run that ends badly, and of what a driver has left, written over or touched. */
 #ifndef DRIVERS_TOLD_H
 #define DRIVERS_TOLD_H
 
@@ -7,6 +7,7 @@ const char *packet_at(int device);
 const char *callers_of(const Call *c);
 void keep_callers(Callers *kept, const Call *c);
 const char *place_with_callers(WDM_SITE at, const Callers *kept);
+bool is_helper(const void *at);
 int where_is(bool in_handler, const void **at, int most);
 const void *instruction_of(const void *context);
 void put_places(char *text, size_t size, const void *const *at, int n);
@@ -46,9 +47,44 @@ int driver_of_file(const char *file);
 /* reached.c */
 void tell_unreached(FILE *out);
 
+/* objects.c, mdl.c, start_io.c: what wdm_ob.h, wdm_mm.h and wdm_hw.h have */
+bool is_referenced(PVOID object);
+HANDLE new_handle(POBJECT_TYPE type, PVOID object);
+PVOID handle_object(HANDLE handle, POBJECT_TYPE type);
+void tell_references(void);
+void forget_names(PDEVICE_OBJECT device);
+void reinitialize(PDRIVER_OBJECT driver);
+void tell_files_dereferenced(PVOID object);
+PFILE_OBJECT file_for(PDEVICE_OBJECT top, UCHAR major);
+void give_mdl(Packet *p);
+void tell_locked_mdls(void);
+
+/* associated.c */
+bool is_associated(const Packet *p);
+void associated_ended(Packet *p);
+
+/* traps.c, remove_locks.c */
+void open_traps(void);
+bool is_in_page(const void *address);
+void protect(Packet *p);
+void shut(Packet *p);
+void unprotect(Packet *p);
+void tell_touch(const char *call, PIRP irp);
+void tell_all_touches(void);
+bool lock_knows_drained(int device);
+const char *held_tags(int device);
+
+/* initialized.c */
+Packet *initialized_at(const void *at);
+const void *initialized_around(const void *address);
+bool packets_go(const void *from, size_t size);
+void stack_goes(const Frame *f);
+void free_initialized(Packet *p, WDM_SITE at);
+
 /* own_memory.c, stack_blocks.c */
 void remember_blocks(Packet *p);
 void check_blocks(const Frame *f);
+const Frame *frame_around(const void *at);
 void remember_event(const void *event);
 bool is_over_event(const void *event);
 int device_number(const DEVICE_OBJECT *device);

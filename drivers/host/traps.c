@@ -10,11 +10,17 @@
 static char *arena;
 static bool is_on;
 
-/* The instruction of a touch; where the C library makes it, the call of that. */
+/* The instruction of a touch; where a function makes it that copies for its caller, the call of that. */
 static const void *toucher_of(const void *context)
 {
-    const void *at = instruction_of(context), *above;
-    return is_in_program(at) || !where_is(true, &above, 1) ? at : above;
+    const void *at = instruction_of(context), *above[MOST_CALLERS];
+    int i = 0;
+    if (is_in_program(at) && !is_helper(at))
+        return at;
+    const int n = where_is(true, above, MOST_CALLERS);
+    while (i < n && is_helper(above[i]))
+        i++;
+    return i < n ? above[i] : at;
 }
 
 /* The driver whose function touches, where the routine that runs is another driver's; or NOBODY. */
@@ -28,12 +34,20 @@ static int called_driver(const void *at)
     return NOBODY;
 }
 
+/* Whether the address lies where packets of IoAllocateIrp have their pages. */
+bool is_in_page(const void *address)
+{
+    return arena && (const char *)address >= arena && (const char *)address < arena + (size_t)MAX_PACKETS * PAGE;
+}
+
 static void touched(int signal_number, siginfo_t *info, void *context)
 {
     const size_t i = (size_t)((char *)info->si_addr - arena) / PAGE;
     if (touched_block(info->si_addr))
         return;
-    Packet *p = (char *)info->si_addr < arena || i >= MAX_PACKETS ? NULL : packets[i];
+    Packet *p = is_in_page(info->si_addr) ? packets[i] : NULL;
+    if (p && p->irp != (PIRP)(arena + i * PAGE))
+        p = NULL; /* that page isn't used */
     const bool was_watched = p && unwatch(p);
     const bool others_open_it = p && !was_watched && !__atomic_load_n(&p->shut, __ATOMIC_SEQ_CST);
     if (others_open_it || (was_watched && (!is_watcher(p) || is_code_of_holder(p, toucher_of(context))))) {
@@ -74,18 +88,18 @@ void open_traps(void)
 static bool lets_go(const char *call)
 {
     return !strcmp(call, "IoCompleteRequest") || !strcmp(call, "IoCallDriver") || !strcmp(call, "IoFreeIrp") ||
-        !strcmp(call, "IoReuseIrp");
+        !strcmp(call, "IoReuseIrp") || !strcmp(call, "IoInitializeIrp");
 }
 
 /* The shadow of a packet; that of a rider, where one stands in its memory. */
 Packet *find(PIRP irp)
 {
-    const size_t i = (size_t)((char *)irp - arena) / PAGE;
-    if (!arena || (char *)irp < arena || i >= (size_t)n_packets || ((char *)irp - arena) % PAGE)
-        give_up("a pointer that is no packet of IoAllocateIrp is handed to a call");
+    const size_t i = is_in_page(irp) ? (size_t)((char *)irp - arena) / PAGE : MAX_PACKETS;
+    Packet *p = i < (size_t)n_packets && packets[i]->irp == irp ? packets[i] : initialized_at(irp);
+    if (!p)
+        give_up("a pointer that is no packet of IoAllocateIrp or IoInitializeIrp is handed to a call");
     if (self.touched)
         tell_touch(self.calls->name, irp);
-    Packet *p = packets[i];
     touch(p->irp, WRITES);
     if (footprints && lets_go(self.calls->name))
         access_to(p->irp, true, NULL, false);
@@ -100,14 +114,13 @@ Packet *find(PIRP irp)
 uint64_t packet_name(const void *address)
 {
     const size_t i = (size_t)((const char *)address - arena) / PAGE;
-    return i < (size_t)n_packets ? packets[i]->name : 0;
+    return is_in_page(address) && i < (size_t)n_packets ? packets[i]->name : 0;
 }
 
-/* The page of the packet that an address lies in, or NULL. */
+/* The begin of the packet that an address lies in, or NULL. */
 const void *packet_page(const void *address)
 {
-    const size_t i = (size_t)((const char *)address - arena) / PAGE;
-    return !arena || (const char *)address < arena || i >= MAX_PACKETS ? NULL : arena + i * PAGE;
+    return is_in_page(address) ? arena + (size_t)((const char *)address - arena) / PAGE * PAGE : initialized_around(address);
 }
 
 void unprotect(Packet *p)
@@ -117,12 +130,13 @@ void unprotect(Packet *p)
     p->trapped = false;
     __atomic_store_n(&p->shut, false, __ATOMIC_SEQ_CST);
     unwatch(p);
-    mprotect(p->irp, PAGE, PROT_READ | PROT_WRITE);
+    if (is_in_page(p->irp))
+        mprotect(p->irp, PAGE, PROT_READ | PROT_WRITE);
 }
 
 void protect(Packet *p)
 {
-    if (is_on && !p->rides)
+    if (is_on && !p->rides && is_in_page(p->irp))
         mprotect(p->irp, PAGE, PROT_NONE);
 }
 

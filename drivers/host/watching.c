@@ -46,7 +46,7 @@ static void watch(Packet *p)
 /* Before IoCallDriver returns to the code of `by`. */
 void watch_sent(Packet *p, int by, uint64_t use)
 {
-    if (!self.frames || p->use != use || !is_away(p, by))
+    if (!self.frames || p->use != use || !is_in_page(p->irp) || !is_away(p, by))
         return;
     __atomic_store_n(&p->watcher, self.frames->number, __ATOMIC_SEQ_CST);
     __atomic_store_n(&p->watcher_calls, self.calls->up, __ATOMIC_SEQ_CST);

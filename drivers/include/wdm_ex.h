@@ -26,7 +26,8 @@ BOOLEAN KeRemoveEntryDeviceQueue(PKDEVICE_QUEUE Queue, PKDEVICE_QUEUE_ENTRY Entr
 
 /* Levels and deferred calls. */
 BOOLEAN KeRemoveQueueDpc(PKDPC Dpc);
-KIRQL KeRaiseIrqlToDpcLevel(VOID);
+KIRQL WdmKeRaiseIrqlToDpcLevel(WDM_SITE at);
+#define KeRaiseIrqlToDpcLevel() WdmKeRaiseIrqlToDpcLevel(WDM_HERE)
 #define KeRaiseIrqlToSynchLevel KeRaiseIrqlToDpcLevel
 typedef enum _KDPC_IMPORTANCE { LowImportance, MediumImportance, HighImportance, MediumHighImportance } KDPC_IMPORTANCE;
 #define KeSetImportanceDpc(dpc, importance) ((void)(dpc), (void)(importance))

@@ -72,10 +72,12 @@ NTSTATUS IoGetDevicePropertyData(PDEVICE_OBJECT Device, const DEVPROPKEY *Key, L
                                  PVOID Data, PULONG Needed, PDEVPROPTYPE Type);
 NTSTATUS IoOpenDeviceRegistryKey(PDEVICE_OBJECT Device, ULONG Which, ACCESS_MASK Access, PHANDLE Key);
 NTSTATUS IoOpenDeviceInterfaceRegistryKey(PUNICODE_STRING Link, ACCESS_MASK Access, PHANDLE Key);
-NTSTATUS IoRegisterPlugPlayNotification(IO_NOTIFICATION_EVENT_CATEGORY Category, ULONG Flags, PVOID Data,
-                                        PDRIVER_OBJECT Driver, PDRIVER_NOTIFICATION_CALLBACK_ROUTINE Routine,
-                                        PVOID Context, PVOID *Entry);
-NTSTATUS IoUnregisterPlugPlayNotification(PVOID Entry);
+NTSTATUS WdmRegisterNotification(IO_NOTIFICATION_EVENT_CATEGORY Category, ULONG Flags, PVOID Data, PDRIVER_OBJECT Driver,
+                                 PDRIVER_NOTIFICATION_CALLBACK_ROUTINE Routine, PVOID Context, PVOID *Entry, WDM_SITE at);
+#define IoRegisterPlugPlayNotification(category, flags, data, driver, routine, context, entry) \
+    WdmRegisterNotification((category), (flags), (PVOID)(data), (driver), (routine), (context), (entry), WDM_HERE)
+NTSTATUS WdmUnregisterNotification(PVOID Entry, WDM_SITE at);
+#define IoUnregisterPlugPlayNotification(entry) WdmUnregisterNotification((entry), WDM_HERE)
 #define IoUnregisterPlugPlayNotificationEx IoUnregisterPlugPlayNotification
 typedef VOID DEVICE_CHANGE_COMPLETE_CALLBACK(PVOID Context);
 typedef DEVICE_CHANGE_COMPLETE_CALLBACK *PDEVICE_CHANGE_COMPLETE_CALLBACK;
@@ -106,7 +108,8 @@ BOOLEAN WdmIoForwardIrpSynchronously(PDEVICE_OBJECT Target, PIRP Irp, WDM_SITE a
 PIRP WdmIoMakeAssociatedIrp(PIRP Master, CCHAR Size, WDM_SITE at);
 VOID WdmIoSetNextIrpStackLocation(PIRP Irp, WDM_SITE at);
 #define IoAllocateIrpEx(device, size, quota) ((void)(device), IoAllocateIrp(size, quota))
-#define IoInitializeIrp(irp, bytes, size) ((void)(bytes), (void)(size), WdmIoReuseIrp((irp), STATUS_SUCCESS, WDM_HERE))
+VOID WdmIoInitializeIrp(PIRP Irp, USHORT Bytes, CCHAR Size, WDM_SITE at);
+#define IoInitializeIrp(irp, bytes, size) WdmIoInitializeIrp((irp), (USHORT)(bytes), (CCHAR)(size), WDM_HERE)
 #define IoMakeAssociatedIrp(master, size) WdmIoMakeAssociatedIrp((master), (size), WDM_HERE)
 #define IoSetNextIrpStackLocation(irp) WdmIoSetNextIrpStackLocation((irp), WDM_HERE)
 #define IoGetFunctionCodeFromCtlCode(code) (((code) >> 2) & 0xfff)

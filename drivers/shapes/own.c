@@ -21,6 +21,25 @@ static NTSTATUS OwnAndWait(PEXTENSION Ext, PIRP Irp)
     return Done(Irp, status);
 }
 
+/* A packet on its own stack, which it initializes twice and waits for. */
+static NTSTATUS OnItsStack(PEXTENSION Ext, PIRP Irp)
+{
+    union { IRP Irp; UCHAR Room[sizeof(IRP) + 4 * sizeof(IO_STACK_LOCATION)]; } own;
+    KEVENT event;
+    if (Ext->Lower->StackSize > 4)
+        return Done(Irp, STATUS_INSUFFICIENT_RESOURCES);
+    for (CCHAR locations = Ext->Lower->StackSize; locations <= 4; locations += 3) {
+        KeInitializeEvent(&event, NotificationEvent, FALSE);
+        IoInitializeIrp(&own.Irp, IoSizeOfIrp(locations), locations);
+        *IoGetNextIrpStackLocation(&own.Irp) = *IoGetCurrentIrpStackLocation(Irp);
+        IoSetCompletionRoutine(&own.Irp, Signal, &event, TRUE, TRUE, TRUE);
+        IoCallDriver(Ext->Lower, &own.Irp);
+        KeWaitForSingleObject(&event, Executive, KernelMode, FALSE, NULL);
+    }
+    Irp->IoStatus = own.Irp.IoStatus;
+    return Done(Irp, own.Irp.IoStatus.Status);
+}
+
 typedef struct { PIRP Parent; PDEVICE_OBJECT Lower; int Left; ULONG_PTR Sum; } SPLIT;
 
 static VOID Fill(PIRP Own, ULONG Ending)
@@ -109,7 +128,7 @@ static NTSTATUS BuiltForNobody(PEXTENSION Ext, PIRP Irp)
 }
 
 const NAMED_SHAPE OwnShapes[] = {
-    { "OwnAndWait", OwnAndWait }, { "SplitTransfer", SplitTransfer }, { "SendElsewhere", SendElsewhere },
-    { "SkipElsewhere", SkipElsewhere }, { "ElsewhereAndKeep", ElsewhereAndKeep },
+    { "OwnAndWait", OwnAndWait }, { "OnItsStack", OnItsStack }, { "SplitTransfer", SplitTransfer },
+    { "SendElsewhere", SendElsewhere }, { "SkipElsewhere", SkipElsewhere }, { "ElsewhereAndKeep", ElsewhereAndKeep },
     { "BuiltForNobody", BuiltForNobody }, { NULL, NULL },
 };

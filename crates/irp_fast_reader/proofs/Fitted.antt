@@ -1,5 +1,5 @@
 -- A transcript's lines: the header's, the entries' and the word lines, of which all fit and go out, or the first ones.
-use Rattle.std.proofs.Common.{◌≡◌, ◌+◌, ◌≤◌, ◌<◌, ℕ, List, [], map, length, take, Some, Result, Ok, Err, refl, subst, arith}
+use Rattle.std.proofs.Common.{◌≡◌, ◌≤◌, ◌<◌, ℕ, List, [], map, length, take, Some, Result, Ok, Err, refl, subst, arith}
 use Rattle.std.proofs.lemmas.Grind.{common_steps}
 use Rattle.std.specs.Prelude.{OnOk}
 use Rattle.std.specs.List.{All}
@@ -22,8 +22,7 @@ use Rattle.irp_fast_reader.proofs.Going.{begins, nothing, sent, stopped}
 abbrev whole : Header → List Entry → List WordLine → TranscriptValue
 whole header entries words = record { header = Some header; entries = entries; words = words }
 
--- ---- which fit
-
+-- the first ones of few are few
 taken_few : {T : Type 0} (place most : ℕ) (values : List T) → length values ≤ most → length (take place values) ≤ most
 taken_few place most values few = grind (arith, common_steps)
 

@@ -62,6 +62,8 @@ pub struct Example {
     pub limit: Limit,
     /// The steps, each in a seat.
     pub steps: &'static [(u32, Deed)],
+    /// What another thread does to a lock of its own while a dispatch runs, each in a seat. The first seat holds it.
+    pub beside: &'static [(u32, Act)],
     /// What a look at the packet is answered at the end.
     pub last: Reply,
 }

@@ -58,8 +58,8 @@ fn lines_of<R: Threads + Wait + Sync>(
     Err("memory was missing twice")
 }
 
-/// Writes what came of a scenario or a test: of a scenario its lines, and where the refused request fell. Whether all was
-/// as it has to be.
+/// Writes what came of a scenario or a test: of a scenario its lines, and where the refused request fell. Whether all
+/// was as it has to be.
 fn tell<W: Write>(
     writer: &mut W,
     name: &str,
@@ -91,8 +91,8 @@ fn tell<W: Write>(
     Ok(true)
 }
 
-/// Plays those of the scenarios and tests that have this name, or each where the name is `every`, and writes what came of
-/// them. Whether all was as it has to be.
+/// Plays those of the scenarios and tests that have this name, or each where the name is `every`, and writes what came
+/// of them. Whether all was as it has to be.
 fn play_named<R: Threads + Wait + Sync, W: Write>(
     rt: &R,
     alloc: Global,

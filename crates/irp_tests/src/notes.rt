@@ -1,17 +1,16 @@
 //! What closures note of their calls, and two threads that tell each other how far they are.
 
-use crate::example::Act;
 use std::sync::atomic::{AtomicU32, AtomicU64, Ordering};
 
 /// How often one thread tries what another one has to make true.
 pub const TURNS: u32 = 100_000_000;
 
-/// The order in which closures were called, a digit each; how another thread acts on a lock while a dispatch runs, if
-/// one does; how often a dispatch ran, and how often the other thread was answered.
+/// The order in which closures were called, a digit each; whether a dispatch meets another thread; how often a dispatch
+/// ran, and how often the other thread was answered.
 #[derive(Drop)]
 pub struct Notes {
     order: AtomicU32,
-    pub beside: &'static [(u32, Act)],
+    pub meets: bool,
     pub runs: AtomicU64,
     pub answers: AtomicU64,
 }
@@ -27,11 +26,11 @@ pub fn waits(count: &AtomicU64, until: u64) -> bool {
 }
 
 impl Notes {
-    /// Notes of nothing, beside another thread that acts so.
-    pub fn new(beside: &'static [(u32, Act)]) -> Notes {
+    /// Notes of nothing, where a dispatch meets another thread or doesn't.
+    pub fn new(meets: bool) -> Notes {
         Notes {
             order: AtomicU32::new(0),
-            beside,
+            meets,
             runs: AtomicU64::new(0),
             answers: AtomicU64::new(0),
         }

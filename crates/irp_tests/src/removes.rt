@@ -73,9 +73,9 @@ impl Removes {
 
     /// Acts beside another thread, each in a seat, once a dispatch runs there; and tells that it was answered. Whether
     /// all was answered as it has to be.
-    pub fn act_beside(&mut self, notes: &Notes) -> bool {
+    pub fn act_beside(&mut self, notes: &Notes, acts: &[(u32, Act)]) -> bool {
         let mut is_so = waits(&notes.runs, 1);
-        for (seat, act) in notes.beside {
+        for (seat, act) in acts {
             let is_answered = self.act(*seat, *act);
             is_so = is_so && is_answered;
         }
@@ -138,8 +138,8 @@ impl Holder<'_> {
         false
     }
 
-    /// What a seat does in its thread. The first takes turns, begins the removal, finds the lock drained, and is refused
-    /// a reference afterwards; each other one takes turns until it is refused. Whether all was so.
+    /// What a seat does in its thread. The first takes turns, begins the removal, finds the lock drained, and is
+    /// refused a reference afterwards; each other one takes turns until it is refused. Whether all was so.
     fn plays(mut self) -> bool {
         if self.seat.number() != 0 {
             return self.is_refused_within(TURNS);

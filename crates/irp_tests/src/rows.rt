@@ -46,8 +46,8 @@ macro_rules! send {
     ($irp:expr, $device:literal) => { own!(CallDriver, $irp, target: DeviceId($device)) };
 }
 
-/// What a look sees: the owner, the location, the status and the information; whether it was cancelled; PendingReturned;
-/// whether it is marked.
+/// What a look sees: the owner, the location, the status and the information; whether it was cancelled;
+/// PendingReturned; whether it is marked.
 macro_rules! seen {
     ($owner:expr, $at:literal, $status:ident, $count:literal, $cancel:literal, $pending:literal, $marked:literal) => {
         Reply::Seen(Seen {
@@ -91,18 +91,32 @@ macro_rules! reads {
     ($no:literal) => { Asked::Driver($no, &[(READ, DispatchId($no))]) };
 }
 
+/// One device finishes one packet, while another thread acts on a lock.
+macro_rules! finished {
+    ($beside:expr) => {
+        Example {
+            asked: &[Asked::Dispatch(0, FINISH, 1), reads!(0)],
+            seats: 1,
+            limit: Limit::Sixteen,
+            steps: rows! {
+                (0, Deed::Call(Call::CreateDevice { driver: DriverId(0), lock: LOCK }, Reply::Device(DeviceId(0)), 0));
+                (0, Deed::Call(ALLOCATE, Reply::Irp(IrpRef { slot: 0, use_no: 1 }), 0));
+                (0, Deed::Call(fill!(IRP), Reply::Done, 0));
+                (0, Deed::Call(send!(IRP, 0), Reply::Status(Status::SUCCESS), 1));
+            },
+            beside: &$beside,
+            last: seen!(Owner::Ended, 2, SUCCESS, 5, false, false, false),
+        }
+    };
+}
+
 /// One device finishes one packet.
-static FINISHED: Example = Example {
-    asked: &[Asked::Dispatch(0, FINISH, 1), reads!(0)],
-    seats: 1,
-    limit: Limit::Sixteen,
-    steps: rows! {
-        (0, Deed::Call(Call::CreateDevice { driver: DriverId(0), lock: LOCK }, Reply::Device(DeviceId(0)), 0));
-        (0, Deed::Call(ALLOCATE, Reply::Irp(IrpRef { slot: 0, use_no: 1 }), 0));
-        (0, Deed::Call(fill!(IRP), Reply::Done, 0));
-        (0, Deed::Call(send!(IRP, 0), Reply::Status(Status::SUCCESS), 1));
-    },
-    last: seen!(Owner::Ended, 2, SUCCESS, 5, false, false, false),
+static FINISHED: Example = finished!([]);
+
+/// The same, while another thread takes a reference over, acquires the lock itself, and releases both.
+static BESIDE: Example = finished! {
+    [(1, Act::Hand(1, Ok(()))), (1, Act::Acquire(2, Ok(()))), (1, Act::Release(2, Ok(()))),
+        (1, Act::Release(1, Ok(())))]
 };
 
 /// A routine keeps a packet, and its device completes it.
@@ -134,12 +148,13 @@ static KEPT: Example = Example {
             Reply::Done, 4));
         (0, Deed::Call(LOOK, seen!(Owner::Ended, 4, SUCCESS, 6, false, true, false), 0));
     },
+    beside: &[],
     last: seen!(Owner::Ended, 4, SUCCESS, 6, false, true, false),
 };
 
 /// A packet goes down through two devices, and is cancelled; both are tried again and refused. The cancel routine
-/// finishes it, and both Watches are asked, the lower one first. A second packet, whose Watch is for a success alone, is
-/// sent to the lower device and cancelled: only the cancel routine is asked.
+/// finishes it, and both Watches are asked, the lower one first. A second packet, whose Watch is for a success alone,
+/// is sent to the lower device and cancelled: only the cancel routine is asked.
 static CANCELLED: Example = Example {
     asked: rows! {
         Asked::Routine(0, Rule::Watch, 0);
@@ -168,6 +183,7 @@ static CANCELLED: Example = Example {
         (0, Deed::Call(send!(NEXT, 0), Reply::Status(Status::PENDING), 2));
         (0, Deed::Call(Call::Cancel { irp: NEXT }, Reply::Cancelled(true), 3));
     },
+    beside: &[],
     last: seen!(Owner::Ended, 3, CANCELLED, 0, true, true, false),
 };
 
@@ -185,6 +201,7 @@ static TAKEN: Example = Example {
         (0, Deed::Call(Call::Cancel { irp: IRP }, Reply::Cancelled(false), 0));
         (0, Deed::Call(FINISH_TAKEN, Reply::Done, 0));
     },
+    beside: &[],
     last: seen!(Owner::Ended, 2, SUCCESS, 5, true, true, false),
 };
 
@@ -205,6 +222,7 @@ static DRAINED: Example = Example {
         (1, Deed::Call(Call::Delete { device: DeviceId(0) }, Reply::Refused(Refusal::NotDrained), 0));
         (0, Deed::Call(Call::Delete { device: DeviceId(0) }, Reply::Done, 0));
     },
+    beside: &[],
     last: Reply::Refused(Refusal::NoIrp),
 };
 
@@ -223,6 +241,7 @@ static BEHIND: Example = Example {
         (0, Deed::Call(ALLOCATE, Reply::Irp(IrpRef { slot: 3, use_no: 4 }), 0));
         (1, Deed::Learn(0, 10));
     },
+    beside: &[],
     last: seen!(Owner::Originator, 2, SUCCESS, 0, false, false, false),
 };
 
@@ -230,6 +249,7 @@ static BEHIND: Example = Example {
 #[derive(Clone, Copy)]
 pub enum ExampleName {
     Finished,
+    Beside,
     Kept,
     Cancelled,
     Taken,
@@ -241,6 +261,7 @@ pub enum ExampleName {
 pub fn example_of(name: ExampleName) -> &'static Example {
     match name {
         ExampleName::Finished => &FINISHED,
+        ExampleName::Beside => &BESIDE,
         ExampleName::Kept => &KEPT,
         ExampleName::Cancelled => &CANCELLED,
         ExampleName::Taken => &TAKEN,

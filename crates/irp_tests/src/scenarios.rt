@@ -1,8 +1,7 @@
 //! The scenarios and the tests by their names.
 
-use crate::example::Act;
 use crate::removes::{drop_holder, remove_under_load};
-use crate::rows::ExampleName::{Behind, Cancelled, Drained, Finished, Kept, Taken};
+use crate::rows::ExampleName::{Behind, Beside, Cancelled, Drained, Finished, Kept, Taken};
 use crate::rows::{ExampleName, example_of};
 use crate::scenes::SceneName::{GateTurns, MissingSeat, Pairs, StopInSetup, TwoCalls};
 use crate::scenes::{SceneName, scene_of};
@@ -15,8 +14,8 @@ use crate::workers::play_scene;
 use crate::writes::{cut_writes, write_as_far_as_it_fits, write_the_transcript};
 use Told::{Lines, Name, Refused};
 use Work::{
-    Beside, CutWrites, DropHolder, Fitting, Play, Read, RemoveUnderLoad, Run, Script, SlotRace,
-    Store, Table, Written,
+    CutWrites, DropHolder, Fitting, Play, Read, RemoveUnderLoad, Run, Script, SlotRace, Store,
+    Table, Written,
 };
 use std::alloc::Global;
 use std::sync::Wait;
@@ -38,8 +37,6 @@ pub enum Told {
 pub enum Work {
     /// Plays an example in a session.
     Play(ExampleName),
-    /// The same, while another thread acts on a lock.
-    Beside(ExampleName),
     /// A table of answers grows.
     Table,
     /// To a store so many are added, by these rows: from this one, up to that one.
@@ -80,7 +77,7 @@ static SCENARIOS: &[(&str, Told, Work)] = rows! {
     ("cut_writes", Lines, CutWrites);
     ("closures_are_called_once_in_the_order_of_the_list", Name, Play(Cancelled));
     ("a_seat_is_behind_what_it_has_seen", Name, Play(Behind));
-    ("acquire_during_call", Name, Beside(Finished));
+    ("acquire_during_call", Name, Play(Beside));
     ("a_seat_dropped_while_it_holds_keeps_the_lock_busy", Name, DropHolder);
     ("remove_under_load", Name, RemoveUnderLoad);
     ("slot_race", Name, SlotRace);
@@ -90,15 +87,6 @@ static SCENARIOS: &[(&str, Told, Work)] = rows! {
     ("the_gate_is_called_before_and_after_each_step", Name, Run(GateTurns));
     ("lines_go_out_up_to_a_slot_of_33_bits", Name, Fitting);
 };
-
-/// What another thread does to the lock while a dispatch runs: it takes a reference over, acquires the lock itself, and
-/// releases both.
-static ACTS_BESIDE: [(u32, Act); 4] = [
-    (1, Act::Hand(1, Ok(()))),
-    (1, Act::Acquire(2, Ok(()))),
-    (1, Act::Release(2, Ok(()))),
-    (1, Act::Release(1, Ok(()))),
-];
 
 /// The scenarios and the tests. They are named here alone: a proof takes them in for each function that names them.
 pub fn scenarios() -> &'static [(&'static str, Told, Work)] {
@@ -114,8 +102,7 @@ pub fn perform<R: Threads + Wait + Sync>(
     out: &mut Vec<u8>,
 ) -> Result<(), Halt> {
     match work {
-        Play(name) => play_example(rt, alloc, example_of(name), &[], tried, out),
-        Beside(name) => play_example(rt, alloc, example_of(name), &ACTS_BESIDE, tried, out),
+        Play(name) => play_example(rt, alloc, example_of(name), tried, out),
         Table => grow_table(alloc, tried),
         Store(from, to, count) => grow_store(rt, alloc, rows(from, to), count, tried, out),
         Run(name) => play_scene(rt, alloc, scene_of(name), tried),

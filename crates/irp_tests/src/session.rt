@@ -9,7 +9,7 @@ use crate::removes::Removes;
 use crate::room::Room;
 use crate::slots::taken;
 use crate::texts::put_transcript;
-use crate::tried::{Halt, Tried, carried, wanted};
+use crate::tried::{Halt, Tried, carried, made_or, wanted};
 use irp_routines::{Ask, Store};
 use irp_shared::{Seat, Session, Shared, Transcript, open_with_limit};
 use std::alloc::Global;
@@ -29,7 +29,7 @@ fn played_beside<A: Ask + Send, L: Session + Send + Sync, R: Threads + Wait + Sy
     let notes = room.notes;
     let is_begun = removes.act(0, Act::Acquire(1, Ok(())));
     let playing = move || room.play(example);
-    let acting = move || removes.act_beside(notes);
+    let acting = move || removes.act_beside(notes, example.beside);
     let (played, is_so) = thread::join(rt, playing, acting);
     wanted(
         is_begun && is_so,
@@ -50,7 +50,7 @@ fn played<A: Ask + Send, L: Session + Send + Sync, R: Threads + Wait + Sync>(
 ) -> Result<u64, Halt> {
     let token = taken(alloc, tried)?;
     let removes = Removes::open(alloc, tried)?;
-    let others = if notes.beside.is_empty() {
+    let others = if example.beside.is_empty() {
         None
     } else {
         Some(Removes::open(alloc, tried)?)
@@ -96,10 +96,11 @@ fn session<A: Ask + Send + Drop, L: Session + Send + Sync, R: Threads + Wait + S
     let own = places.as_mut_slice();
     let done = played(rt, alloc, &shared, own, notes, example, tried);
     let (count, (shared, places)) = carried(done, (shared, places))?;
-    match shared.close(places) {
-        Ok(transcript) if transcript.entries().len() as u64 == count => Ok(transcript),
-        _ => Err(Halt::Wrong("the seats kept other entries than the history has")),
-    }
+    let closed = shared.close(places);
+    let transcript = made_or(closed, "the seats kept other entries than the history has")?;
+    let is_whole = transcript.entries().len() as u64 == count;
+    let (_, transcript) = carried(wanted(is_whole, "entries are missing"), transcript)?;
+    Ok(transcript)
 }
 
 /// Plays an example in a session of this store, and puts the lines of its transcript.

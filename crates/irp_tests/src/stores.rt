@@ -3,7 +3,7 @@
 ghost use Rattle.std.specs.Prelude.{◌≡◌, true};
 ghost use Rattle.irp_types.specs.Rules.{is_allowed, is_plan_allowed, is_cancel_allowed};
 
-use crate::example::{Act, Asked, Example};
+use crate::example::{Asked, Example};
 use crate::notes::{Notes, waits};
 use crate::session::play_in_session;
 use crate::tables::extent_of;
@@ -65,14 +65,14 @@ fn cancelled(notes: &Notes, rule: CancelRule, digit: u32, answer: CancelAnswer) 
     guarded_cancel(rule, answer)
 }
 
-/// Notes its digit, and plans so, where that is allowed, and the thread beside it, if there is one, was answered while it
+/// Notes its digit, and plans so, where that is allowed, and the other thread, if it meets one, was answered while it
 /// waited.
 fn planned(notes: &Notes, known: Known, digit: u32, plan: Plan, shown: Shown) -> Plan
     ensures { is_plan_allowed known shown result ≡ true }
 {
     notes.note(digit);
     notes.runs.fetch_add(1, Ordering::SeqCst);
-    if notes.beside.is_empty() || waits(&notes.answers, 1) {
+    if !notes.meets || waits(&notes.answers, 1) {
         guarded_plan(known, shown, plan)
     } else {
         Plan::Finish {
@@ -116,18 +116,18 @@ fn put(store: &mut Store, item: Item) -> Result<u32, Refused> {
     Err(Refused { name, reason, item })
 }
 
-/// Adds an item to a store, which was made of this row: it has to get this number. A refused call has to leave the store
-/// as it was and to hand the item back, which is added again.
+/// Adds an item to a store, which was made of this row: it has to get this number. A refused call has to leave the
+/// store as it was and to hand the item back, which is added again.
 fn add(
     store: &mut Store,
     item: Item,
     row: Asked,
-    number: u32,
+    number: usize,
     tried: &mut Tried,
 ) -> Result<(), Halt> {
     let before = extent_of(store.tables());
     let back = match put(store, item) {
-        Ok(given) => return wanted(given == number, "an item has another number"),
+        Ok(given) => return wanted(given as usize == number, "an item has another number"),
         Err(back) => back,
     };
     let are_back = match (&back.item, row) {
@@ -136,7 +136,7 @@ fn add(
     };
     let is_same = back.reason == Reason::Memory && extent_of(store.tables()) == before;
     let noted = tried.refused(back.name, is_same && are_back);
-    let is_there = matches!(put(store, back.item), Ok(given) if given == number);
+    let is_there = matches!(put(store, back.item), Ok(given) if given as usize == number);
     noted.and(wanted(
         is_there,
         "a call was refused twice, or gives another number",
@@ -145,7 +145,7 @@ fn add(
 
 /// The row of this place, where the rows come again and again, and the number that it gets: its own, and one more for
 /// each round. None where there are no rows.
-fn row_at(rows: &[Asked], place: usize) -> Option<(Asked, u32)> {
+fn row_at(rows: &[Asked], place: usize) -> Option<(Asked, usize)> {
     if rows.is_empty() {
         return None;
     }
@@ -156,7 +156,7 @@ fn row_at(rows: &[Asked], place: usize) -> Option<(Asked, u32)> {
         Asked::Dispatch(own, ..) => own,
         Asked::Driver(own, _) => own,
     };
-    Some((row, own.wrapping_add((place / rows.len()) as u32)))
+    Some((row, (own as usize).wrapping_add(place / rows.len())))
 }
 
 /// Adds so many closures and drivers to a store, by these rows. Then it plays the example in a session of the store, if
@@ -217,20 +217,19 @@ pub fn grow_store<R: Threads + Wait + Sync>(
     tried: &mut Tried,
     out: &mut Vec<u8>,
 ) -> Result<(), Halt> {
-    let notes = Arc::new(alloc, Notes::new(&[]))?;
+    let notes = Arc::new(alloc, Notes::new(false))?;
     filled(rt, alloc, &notes, rows, count, None, tried, out)
 }
 
-/// Plays an example, while others act on a lock beside it. Puts the lines of its transcript.
+/// Plays an example, and puts the lines of its transcript.
 pub fn play_example<R: Threads + Wait + Sync>(
     rt: &R,
     alloc: Global,
     example: &Example,
-    beside: &'static [(u32, Act)],
     tried: &mut Tried,
     out: &mut Vec<u8>,
 ) -> Result<(), Halt> {
-    let notes = Arc::new(alloc, Notes::new(beside))?;
+    let notes = Arc::new(alloc, Notes::new(!example.beside.is_empty()))?;
     let (rows, played) = (example.asked, Some(example));
     filled(rt, alloc, &notes, rows, rows.len(), played, tried, out)
 }

@@ -107,8 +107,7 @@ pub fn read_the_script(alloc: Global, out: &mut Vec<u8>, tried: &mut Tried) -> R
     let (setup, steps) = (parts.setup.as_slice().len(), parts.steps.as_slice().len());
     let labels = parts.labels.len();
     drop(script);
-    writeln!(out, "setup {setup}, steps {steps}, labels {labels}")?;
-    Ok(())
+    Ok(writeln!(out, "setup {setup}, steps {steps}, labels {labels}")?)
 }
 
 /// Reads the text, by itself or as the text of this transcript.

@@ -95,9 +95,6 @@ impl Tried {
 
     /// Notes that a call of this name was refused, and kept what it got. Answers why that ends the scenario.
     pub fn lost(&mut self, name: &'static str) -> Halt {
-        match self.refused(name, true) {
-            Ok(()) => Halt::Memory,
-            Err(halt) => halt,
-        }
+        self.refused(name, true).err().unwrap_or(Halt::Memory)
     }
 }

@@ -34,8 +34,8 @@ impl<'a> Watch<'a> {
         first.wrapping_add(self.others.load(Ordering::SeqCst))
     }
 
-    /// A step begins or was answered, before which so many had begun and so many had been answered: it has to come in its
-    /// turn, with its seat and its place, where steps have to.
+    /// A step begins or was answered, before which so many had begun and so many had been answered: it has to come in
+    /// its turn, with its seat and its place, where steps have to.
     fn called(&self, due: Due, begun: u64, answers: u64) {
         let own = self.scene.steps.get(due.step as usize);
         let is_own = matches!(own, Some(step) if step.seat == due.seat);

@@ -55,8 +55,8 @@ fn is_beginning(bytes: &[u8], fault: WriteFault, cause: Cause) -> bool {
         && transcript_text().starts_with(bytes)
 }
 
-/// Writes the transcript, and puts what was written, which has to be the text that was read. Where memory is missing, it
-/// is written again.
+/// Writes the transcript, and puts what was written, which has to be the text that was read. Where memory is missing,
+/// it is written again.
 fn write_whole(
     alloc: Global,
     out: &mut Vec<u8>,
@@ -130,8 +130,7 @@ fn put_cut_writes(alloc: Global, out: &mut Vec<u8>, transcript: &Transcript) -> 
         out.extend_from_slice(b"wrong: the header's line, or a write byte by byte\n")?;
     }
     let tries = length + 1;
-    writeln!(out, "tried: {tries} {wrong} cut writes")?;
-    Ok(())
+    Ok(writeln!(out, "tried: {tries} {wrong} cut writes")?)
 }
 
 /// Reads the transcript, and writes it to outputs that fail.
@@ -142,8 +141,8 @@ pub fn cut_writes(alloc: Global, out: &mut Vec<u8>, tried: &mut Tried) -> Result
     done
 }
 
-/// How many lines of a transcript go out as far as they fit, and where it stopped, if behind its entries comes a look at
-/// the first use of a packet in this slot, which is empty.
+/// How many lines of a transcript go out as far as they fit, and where it stopped, if behind its entries comes a look
+/// at the first use of a packet in this slot, which is empty.
 fn fitting(
     alloc: Global,
     transcript: Transcript,
@@ -174,8 +173,8 @@ fn fitting(
     Ok((lines, done))
 }
 
-/// A transcript that fits goes out whole: its last entry names slot 2^32 - 1. One that names the next slot goes out up to
-/// there. No clause says that memory is there.
+/// A transcript that fits goes out whole: its last entry names slot 2^32 - 1. One that names the next slot goes out up
+/// to there. No clause says that memory is there.
 pub fn write_as_far_as_it_fits(alloc: Global, tried: &mut Tried) -> Result<(), Halt> {
     let last = u32::MAX as usize;
     let fits = fitting(alloc, the_transcript(alloc, None, tried)?, last)?;

@@ -68,8 +68,10 @@ static NTSTATUS Read(PDEVICE_OBJECT DeviceObject, PIRP Irp)
     PEXTENSION ext = DeviceObject->DeviceExtension;
     KIRQL irql;
     NTSTATUS status = IoAcquireRemoveLock(&ext->RemoveLock, Irp);
+#ifndef IGNORES /* else another fault: a read that comes while the device is removed is held */
     if (!NT_SUCCESS(status))
         return Complete(Irp, status, 0);
+#endif
     KeAcquireSpinLock(&ext->Lock, &irql);
     IoMarkIrpPending(Irp);
     IoSetCancelRoutine(Irp, CancelRead); /* told: KeptOverSurprise */
@@ -126,7 +128,7 @@ static NTSTATUS Pnp(PDEVICE_OBJECT DeviceObject, PIRP Irp)
     IoReleaseRemoveLockAndWait(&ext->RemoveLock, Irp); /* told: NotDrained */
     status = PassDown(DeviceObject, Irp);
     IoDetachDevice(ext->Lower);
-    IoDeleteDevice(DeviceObject);
+    IoDeleteDevice(DeviceObject); /* told: InFlight */
     return status;
 }
 
