@@ -76,5 +76,6 @@ abbrev pub Obeys : Order → Streams → Streams → Ending → Type 0
 Obeys Help before after ending = (after.left ≡ before.left) × Helped before.output after.output ending
 Obeys (Read (Listing only span)) before after ending =
     AnswersRead (Listing only span) before after ending
-    ⊎ (ShowsBefore (chosen_of only span) before after ending ⊎ BreaksBefore (chosen_of only span) before after ending)
+    ⊎ (ShowsBefore (chosen_of only span) before after ending
+    ⊎ BreaksBefore (chosen_of only span) before after ending)
 Obeys (Read task) before after ending = AnswersRead task before after ending ⊎ ReadsNone before after ending

@@ -158,7 +158,8 @@ fn show_rest<R: Read, O: Out>(
         → Starts left (R.remaining input.old) start.now reader.old buffer.old
         → SendsInput result (chosen_of gathering.old.wanted.choice.only gathering.old.wanted.span)
         (streams_of left (output_of (O.gone output.old) (O.failures output.old)))
-        (streams_of (R.remaining input.new) (output_of (O.gone output.new) (O.failures output.new))) }
+        (streams_of (R.remaining input.new)
+        (output_of (O.gone output.new) (O.failures output.new))) }
 {
     let (mut from, mut to, mut left) = (start.from, start.to, start.left);
     loop {
@@ -226,7 +227,8 @@ fn show_behind<R: Read, O: Out>(
         → Starts left (R.remaining input.old) start.now reader.old buffer.old
         → ShowsInput result (chosen_of only span)
         (streams_of left (output_of (O.gone output.old) (O.failures output.old)))
-        (streams_of (R.remaining input.new) (output_of (O.gone output.new) (O.failures output.new))) }
+        (streams_of (R.remaining input.new)
+        (output_of (O.gone output.new) (O.failures output.new))) }
 {
     let tells_seats = start.header.seats > 1;
     let choice = Choice { only, tells_seats };
@@ -256,7 +258,8 @@ pub fn show_transcript<R: Read, O: Out>(
 ) -> Result<(), Unshown>
     ensures { ShowsInput result (chosen_of only span)
         (streams_of (R.remaining input.old) (output_of (O.gone output.old) (O.failures output.old)))
-        (streams_of (R.remaining input.new) (output_of (O.gone output.new) (O.failures output.new))) }
+        (streams_of (R.remaining input.new)
+        (output_of (O.gone output.new) (O.failures output.new))) }
 {
     let mut buffer = [0u8; BLOCK];
     let mut reader = Reader::new(alloc);
