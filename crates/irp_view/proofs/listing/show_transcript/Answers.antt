@@ -1,5 +1,5 @@
 -- The header was read, and then the rest; or what stopped it.
-use Rattle.std.proofs.Common.{Option, Ok, sym, subst}
+use Rattle.std.proofs.Common.{ℕ, Option, Ok, sym, subst}
 use Rattle.irp_feed.specs.Feeding.{IsStart, refused_line}
 use Rattle.irp_feed.specs.declared.header.Start.{Start}
 use Rattle.irp_view.specs.Listed.{StopsAt, chosen_of}
