@@ -1,6 +1,5 @@
 -- Block after block is shown, up to the end of the input.
-use Rattle.std.proofs.Common.{ℕ, ◌≡◌, ◌-◌, List, ◌++◌, length, take, refl, sym, subst, ap, ◌∙◌, arith, length-take-le}
-use Rattle.irp_transcript_reader.specs.Reading.{cut}
+use Rattle.std.proofs.Common.{ℕ, ◌≡◌, ◌-◌, List, ◌++◌, take, refl, sym, subst, ap, ◌∙◌, arith, length-take-le}
 use Rattle.irp_transcript_reader.specs.declared.read_fault.ReadFault.{ReadFault}
 use Rattle.irp_feed.specs.Feeding.{IsSoFar, line_in, piece_of, refused_line}
 use Rattle.irp_feed.specs.declared.unfed.RefusedLine.TheVariants.{NoNewline}
