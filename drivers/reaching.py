@@ -94,8 +94,7 @@ def held_at_removal(bench):
     well = status == 1 and kept.search(said)
     yield "a read that comes when the device is gone is held, every order", NO_COMPLAINT if well else said[-900:]
     held = re.compile(rf"^host: FAULT InFlight .*: pends\.c:{line_in_pends('InFlight')} in Pnp .*which D1 \(pends\) holds ", re.M)
-    for flags, name, is_told in (("LATE", "fails by its remove lock", False), ("UNLOCKED", "fails by a flag", False),
-                                 ("LATE UNLOCKED", "is held", True)):
+    for flags, name, is_told in (("LATE", "fails by its remove lock", False), ("LATE IGNORES", "is held", True)):
         said, status = run(bench, "--cflag=-DRIGHT", *(f"--cflag=-D{it}" for it in flags.split()), PENDS)
         well = status == is_told and bool(held.search(said)) == is_told
         yield f"a read that comes while the device is removed {name}", NO_COMPLAINT if well else said[-900:]

@@ -10,6 +10,14 @@ const char *const op_names[] = { "create_device", "attach", "detach", "delete", 
     "copy_to_next", "skip", "set_routine", "mark_pending", "call_driver", "complete", "set_cancel_routine", "cancel",
     "look" };
 
+/* A device that kept or finished the packet may have been detached since it was asked: the entry comes behind that. */
+static void look_below(Entry *e)
+{
+    for (int i = 0; i < e->n; i++)
+        if (e->asked[i].kind == DISPATCH && (e->asked[i].plan == FINISH || e->asked[i].plan == HOLD))
+            e->asked[i].has_lower = devices[e->asked[i].device].lower >= 0;
+}
+
 /* A new entry, which isn't in the history yet. */
 Entry *begin(Op op, Packet *p, int by)
 {
@@ -23,14 +31,6 @@ Entry *begin(Op op, Packet *p, int by)
     *e = (Entry){ .op = op, .seat = self.seat, .by = by, .p = p, .slot = p ? p->slot : 0, .use = p ? p->use : 0, .driver = NOBODY };
     begun_here(e);
     return e;
-}
-
-/* A device that kept or finished the packet may have been detached since it was asked: the entry comes behind that. */
-static void look_below(Entry *e)
-{
-    for (int i = 0; i < e->n; i++)
-        if (e->asked[i].kind == DISPATCH && (e->asked[i].plan == FINISH || e->asked[i].plan == HOLD))
-            e->asked[i].has_lower = devices[e->asked[i].device].lower >= 0;
 }
 
 /* The entry is settled: it gets the next number. `cancel` is what all that were asked have been shown. */

@@ -17,9 +17,7 @@ static NTSTATUS Complete(PIRP Irp, NTSTATUS Status, ULONG_PTR Information)
 static VOID EndRead(PEXTENSION Ext, PIRP Irp, NTSTATUS Status)
 {
     Complete(Irp, Status, 0);
-#ifndef UNLOCKED
     IoReleaseRemoveLock(&Ext->RemoveLock, Irp);
-#endif
 }
 
 static VOID CancelRead(PDEVICE_OBJECT DeviceObject, PIRP Irp)
@@ -69,10 +67,8 @@ static NTSTATUS Read(PDEVICE_OBJECT DeviceObject, PIRP Irp)
 {
     PEXTENSION ext = DeviceObject->DeviceExtension;
     KIRQL irql;
-#ifdef UNLOCKED /* another fault: a read that comes while the device is removed is held */
-    NTSTATUS status = STATUS_SUCCESS;
-#else
     NTSTATUS status = IoAcquireRemoveLock(&ext->RemoveLock, Irp);
+#ifndef IGNORES /* else another fault: a read that comes while the device is removed is held */
     if (!NT_SUCCESS(status))
         return Complete(Irp, status, 0);
 #endif

@@ -13,8 +13,8 @@ returns-in-Ok-None g c =
     verdict_on_none old now
     (subst (λ (given : Option Start). IsStart old now (Ok given) c.read_header.new.reader c.read_header.new.buffer) c.in-Ok-None.field-0-is c.in-Ok-None.ensures.start)
 
-pub returns-in-Err : goal.returns-in-Err
-returns-in-Err g c =
+pub returns : goal.returns
+returns g c =
     let old = g.R.Read.remaining c.args.input.now in
     let now = g.R.Read.remaining c.read_header.new.input in
     subst (Fails old now) (sym c.refusal.ensures) (starts_fail c.in-Err.unfed old now c.in-Err.ensures.start)

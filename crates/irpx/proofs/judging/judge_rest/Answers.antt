@@ -10,7 +10,7 @@ returns-in-Ok g c = λ old starts.
     (let fed = c.in-Ok.ensures old tt starts (starts_judged (seen c.new-judge.result) c.args.start.now.header c.new-judge.ensures.header c.new-judge.ensures.judged) in
     verdict_on (seen c.feed_rest.new.sink.judge) c.verdict.result old (g.R.Read.remaining c.feed_rest.new.input) fed.0 fed.1 fed.2 (c.verdict.ensures fed.0.entries fed.2.judged))
 
-pub returns-in-Err : goal.returns-in-Err
-returns-in-Err g c = λ old starts.
+pub returns : goal.returns
+returns g c = λ old starts.
     (let fails = c.in-Err.ensures old tt starts (starts_judged (seen c.new-judge.result) c.args.start.now.header c.new-judge.ensures.header c.new-judge.ensures.judged) in
     subst (Fails old (g.R.Read.remaining c.feed_rest.new.input)) (sym c.refusal.ensures) (fails_so c.in-Err.unfed old (g.R.Read.remaining c.feed_rest.new.input) fails))

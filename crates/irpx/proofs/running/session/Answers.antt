@@ -29,8 +29,8 @@ told_each may other tells history each =
     All-weaker (λ (entry : Entry). All (λ asked. ∥ may asked ∥₁) entry.asked) (λ (entry : Entry). All (λ asked. ∥ other asked ∥₁) entry.asked)
     (λ entry all. All-weaker (λ asked. ∥ may asked ∥₁) (λ asked. ∥ other asked ∥₁) tells entry.asked all) history each
 
-pub returns-clause-run : goal.returns-clause-run
-returns-clause-run g c =
+pub returns-in-Ok-run_workers-clause-run : goal.returns-in-Ok-run_workers-clause-run
+returns-in-Ok-run_workers-clause-run g c =
     IfOk-weaker c.finish.result _ (λ (run : Finished). IsRun c.args.script.now (g.A.Ask.tables c.args.ask) run.transcript)
     (λ run ends.
     subst (IsRun c.args.script.now (g.A.Ask.tables c.args.ask)) (sym ends.4)
@@ -41,8 +41,8 @@ returns-clause-run g c =
     c.in-Ok-run_workers.ensures.words))
     c.finish.ensures.ok
 
-pub returns-clause-ran : goal.returns-clause-ran
-returns-clause-ran g c =
+pub returns-in-Ok-run_workers-clause-ran : goal.returns-in-Ok-run_workers-clause-ran
+returns-in-Ok-run_workers-clause-ran g c =
     let script = c.args.script.now in
     let pairs = c.in-Ok-script_seats.pairs.items in
     let made = c.in-Ok-script_seats.ensures in
@@ -67,7 +67,7 @@ returns-clause-ran g c =
     (closed_ran c.args.workers script pairs worked.seats.items ends.0 closed worked.stop opened chains ends.1 ends.3.own)))
     c.finish.ensures.ok
 
-pub returns-clause-shows : goal.returns-clause-shows
-returns-clause-shows g c =
+pub returns-in-Ok-run_workers-clause-shows : goal.returns-in-Ok-run_workers-clause-shows
+returns-in-Ok-run_workers-clause-shows g c =
     IfOk-weaker c.finish.result _ (λ (run : Finished). ShowsSteps c.args.script.now run.transcript run.stop)
-    (λ run ran. ran_shows c.args.workers c.args.script.now run.transcript run.stop c.requires.workers ran) (returns-clause-ran g c)
+    (λ run ran. ran_shows c.args.workers c.args.script.now run.transcript run.stop c.requires.workers ran) (returns-in-Ok-run_workers-clause-ran g c)
