@@ -35,12 +35,7 @@ pub fn rows(from: usize, to: usize) -> &'static [Asked] {
 }
 
 /// A call that was refused: its name, whether memory was missing and the tables are as they were, and what came back.
-#[derive(Drop)]
-struct Refused {
-    name: &'static str,
-    is_same: bool,
-    pairs: Vec<(u8, DispatchId)>,
-}
+type Refused = (&'static str, bool, Vec<(u8, DispatchId)>);
 
 /// How much these tables have: the counts of routines, and how many dispatches and drivers.
 pub fn extent_of(tables: &FixedTables) -> (Known, usize, usize) {
@@ -70,11 +65,7 @@ fn put(table: &mut AnswerTable, row: Asked, pairs: Vec<(u8, DispatchId)>) -> Opt
         },
     };
     let is_same = reason? == Reason::Memory && extent_of(table.tables()) == before;
-    Some(Refused {
-        name,
-        is_same,
-        pairs,
-    })
+    Some((name, is_same, pairs))
 }
 
 /// Adds one of each, each dispatch so that it may name all routines that there are. A call that finds no memory has to
@@ -85,11 +76,11 @@ fn add_each(alloc: Global, table: &mut AnswerTable, tried: &mut Tried) -> Result
             Asked::Driver(_, pairs) => *pairs,
             _ => &[],
         };
-        let Some(back) = put(table, *row, pairs.to_vec(alloc)?) else {
+        let Some((name, is_same, own)) = put(table, *row, pairs.to_vec(alloc)?) else {
             continue;
         };
-        let is_same = back.is_same && back.pairs.as_slice() == pairs;
-        let (_, own) = carried(tried.refused(back.name, is_same), back.pairs)?;
+        let is_so = is_same && own.as_slice() == pairs;
+        let (_, own) = carried(tried.refused(name, is_so), own)?;
         wanted(put(table, *row, own).is_none(), "a call was refused twice")?;
     }
     Ok(())

@@ -4,7 +4,7 @@ use crate::tried::{Halt, Tried, carried, made_or, wanted};
 use irp_fast_reader::{ReadFault, read_again, read_transcript};
 use irp_judge::{Verdict, check};
 use irp_script_reader::{ScriptFault, read_script};
-use irp_shared::{Header, Transcript};
+use irp_shared::{Header, Transcript, TranscriptParts};
 use irp_transcript_writer::{Written, line_of};
 use irp_types::Entry;
 use std::alloc::Global;
@@ -84,9 +84,13 @@ pub fn put_transcript(
     tried: &mut Tried,
 ) -> Result<(), Halt> {
     let (_, transcript) = carried(judge(alloc, &transcript, tried), transcript)?;
-    let parts = transcript.into_parts();
-    match parts.header {
-        Some(header) => put_lines(alloc, out, header, parts.entries.into_vec(), seats),
+    let TranscriptParts {
+        header,
+        entries,
+        ..
+    } = transcript.into_parts();
+    match header {
+        Some(header) => put_lines(alloc, out, header, entries.into_vec(), seats),
         None => Err(Halt::Wrong("a transcript has no header")),
     }
 }

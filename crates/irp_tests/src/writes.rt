@@ -3,7 +3,7 @@
 use crate::texts::{the_transcript, transcript_text};
 use crate::tried::{Halt, Tried, wanted};
 use irp_fast_reader::{Unfit, Unwritten, write_fitting};
-use irp_shared::Transcript;
+use irp_shared::{Transcript, TranscriptParts};
 use irp_transcript_writer::{Cause, WriteFault, WriterOut, line_of, write_transcript};
 use irp_types::{Call, Entry, IrpRef, Questions, Refusal, Reply, Row};
 use std::alloc::Global;
@@ -149,11 +149,15 @@ fn fitting(
     slot: usize,
 ) -> Result<(usize, Result<(), Unwritten>), Halt> {
     transcript.is_one();
-    let parts = transcript.into_parts();
-    let Some(header) = parts.header else {
+    let TranscriptParts {
+        header,
+        entries,
+        words,
+    } = transcript.into_parts();
+    let Some(header) = header else {
         return Err(Halt::Wrong("a transcript has no header"));
     };
-    let mut entries = parts.entries.into_vec();
+    let mut entries = entries.into_vec();
     entries.push(Entry {
         number: entries.len() as u64,
         call: Call::Look {
@@ -165,7 +169,7 @@ fn fitting(
         lock: None,
         drained: false,
     })?;
-    let transcript = Transcript::new(header, Row::from_vec(entries), parts.words);
+    let transcript = Transcript::new(header, Row::from_vec(entries), words);
     let mut bytes = Vec::new(alloc);
     let mut out = WriterOut::new(&mut bytes);
     let done = write_fitting(alloc, &mut out, &transcript);
