@@ -125,7 +125,7 @@ int main(void)
     for (ULONG i = 0; i < rounds; i++) {
         for (int k = 0; k < 4; k++)
             start_at(&r[k], disk, offsets[k]);
-        IoCancelIrp(r[2].Irp);
+        IoCancelIrp(r[3].Irp);
         WdmSend(disk, IRP_MJ_FLUSH_BUFFERS, 0, 0);
         for (int k = 0; k < 4; k++)
             Finish(&r[k]);

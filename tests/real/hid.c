@@ -78,6 +78,10 @@ int main(int argc, char **argv)
     if (Does(argc, argv, "remove")) {
         Pnp(collection, IRP_MN_SURPRISE_REMOVAL);
         Pnp(collection, IRP_MN_REMOVE_DEVICE);
+        if (Does(argc, argv, "later")) { /* a report comes between the two removals, and is polled */
+            Input((BYTE[]){ 7, 7 }, 2);
+            KeDelayExecutionThread(KernelMode, FALSE, &(LARGE_INTEGER){ .QuadPart = -10000 * 500 });
+        }
         Pnp(hid, IRP_MN_REMOVE_DEVICE);
         Pnp(bus, IRP_MN_REMOVE_DEVICE);
     }

@@ -8,7 +8,8 @@ use Rattle.irp_listing.specs.declared.writing.Unwritten.{Unwritten}
 use Rattle.irp_page.specs.Drawing.{Draws, DrawsPart}
 use Rattle.irp_page.specs.declared.choosing.Choice.{Choice}
 use Rattle.irp_view.specs.Ending.{of_unwritten}
-use Rattle.irp_view.specs.Program.{Answers, output_of}
+use Rattle.irp_view.specs.Program.{Answers}
+use Rattle.irp_view.specs.Streams.{output_of}
 use Rattle.irp_view.specs.declared.ending.Ending.{Ending}
 use Rattle.irp_view.specs.declared.ending.Ending.TheVariants.{Done}
 use Rattle.irp_view.specs.declared.orders.Task.TheVariants.{Draw}

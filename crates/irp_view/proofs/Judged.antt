@@ -1,5 +1,5 @@
 -- A transcript that is judged line after line.
-use Rattle.std.proofs.Common.{◌≡◌, suc, zero, inl, inr, true, false, is_some, slice_get, ◌∷◌, ℕ, ◌+◌, ◌<◌, ◌≤◌, List, [], ◌++◌, length, take, OnOk, Option, Some, None, Result, Ok, Err, refl, sym, subst, ap, ◌∙◌, arith, length-append}
+use Rattle.std.proofs.Common.{◌≡◌, suc, zero, inl, inr, true, false, is_some, slice_get, ◌∷◌, ℕ, ◌+◌, ◌<◌, ◌≤◌, List, [], ◌++◌, length, IfOk, OnOk, Option, Some, None, Result, Ok, Err, refl, sym, subst, ap, ◌∙◌, arith, length-append}
 use Rattle.std.proofs.lemmas.Bool.{cases_lt}
 use Rattle.std.proofs.lemmas.List.{take-append-le}
 use Rattle.std.proofs.lemmas.Option.{none-some, slice_get_within}
@@ -12,9 +12,7 @@ use Rattle.irp_transcript.specs.declared.header.Header.{Header}
 use Rattle.irp_fast_reader.specs.Fed.{IsInPlace, with_line}
 use Rattle.irp_fast_reader.specs.declared.line.Line.{Line}
 use Rattle.irp_fast_reader.specs.declared.line.Line.TheVariants.{Header as HeaderLine}
-use Rattle.irp_feed.specs.Feeding.{Fails, refused_line}
 use Rattle.irp_feed.specs.Input.{Bytes}
-use Rattle.irp_feed.specs.declared.unfed.Unfed.{Unfed}
 use Rattle.irp_feed.proofs.Fed.{header_stays}
 use Rattle.irp_judge.specs.declared.verdict.Verdict.TheVariants.{Illegal}
 use Rattle.irp_types.specs.declared.entry.Entry.{Entry}
@@ -24,14 +22,14 @@ use Rattle.irp_judge.specs.Checked.{IsExplained, IsFirstIllegal, IsFirstWrong, I
 use Rattle.irp_judge.specs.declared.verdict.Wrong.{Wrong}
 use Rattle.irp_judge.proofs.Feeding.{wrong_stays}
 use Rattle.irp_judge.proofs.Verdicts.{illegal_verdict, legal_verdict, verdict_with}
-use Rattle.irp_view.specs.Judging.{IsFound, IsJudged, IsKept}
-use Rattle.irp_view.specs.Reading.{line_of}
+use Rattle.irp_view.specs.Judging.{EndsWith, IsFound, IsJudged, IsKept, JudgesAll}
 use Rattle.irp_page.specs.declared.draft.Draft.{Draft}
 use Rattle.irp_page.specs.declared.choosing.Choice.{Choice}
 use Rattle.irp_view.specs.Drafts.{AreDrafted, choice_of}
 use Rattle.irp_view.specs.RefusedCalls.{HasNoted}
 use Rattle.irp_view.specs.declared.refused_calls.RefusedCalls.{RefusedCalls}
 use Rattle.irp_view.specs.declared.judging.Found.{Found}
+use Rattle.irp_view.specs.declared.judging.Judged.{Judged}
 use Rattle.irp_view.specs.declared.judging.Kept.{Kept}
 use Rattle.irp_view.specs.declared.reading.Unread.{Unread}
 
@@ -122,7 +120,7 @@ starts_judged judge kept header same judged words drafted noted none = record {
   judged = judged;
   entry = subst (IsKept [] judge.wrong) (sym none) (kept_none judge.wrong);
   words = words;
-  choice = refl;
+  chosen = refl;
   drafted = drafted;
   noted = noted;
 }
@@ -138,7 +136,7 @@ judged_on (Ok done) old new kept then choice before line was place header chosen
   judged = fed.0;
   entry = fed.1;
   words = fed.2;
-  choice = chosen;
+  chosen = chosen;
   drafted = drafted;
   noted = noted;
 }
@@ -179,6 +177,12 @@ finds_nothing found entries words wrong drafted noted = record {
   noted = noted;
 }
 
--- what is told where the input holds none
-pub fails_told : (unfed : Unfed) (unread : Unread) (old now : Bytes) → line_of unread ≡ refused_line unfed → Fails old now (refused_line unfed) → Fails old now (line_of unread)
-fails_told unfed unread old now same fails = subst (Fails old now) (sym same) fails
+-- what was found, with a draft of this choice
+pub judges_choice : (result : Result Judged Unread) (old now : Bytes) (choice : Option Choice) → JudgesAll old now choice result
+    → IfOk result (λ (judged : Judged). choice_of judged.found.draft ≡ choice)
+judges_choice (Ok judged) old now choice is = is.1
+judges_choice (Err unread) old now choice is = tt
+
+pub judges_ends : (result : Result Judged Unread) (old now : Bytes) (choice : Option Choice) → JudgesAll old now choice result → EndsWith old now result
+judges_ends (Ok judged) old now choice is = is.0
+judges_ends (Err unread) old now choice is = is

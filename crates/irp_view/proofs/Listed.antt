@@ -16,8 +16,9 @@ use Rattle.irp_feed.proofs.Fed.{is_input, none_of_end, say_all, say_more}
 use Rattle.irp_feed.proofs.Pieces.{reads_on}
 use Rattle.irp_listing.specs.Writing.{BreaksOff, Written, count_after}
 use Rattle.irp_listing.specs.declared.writing.Unwritten.{Unwritten}
-use Rattle.irp_view.specs.Listed.{Aim, AreGathered, AreShown, AreShownBefore, AreShownUpTo, BreaksAt, GathersBlock, HasGathered, IsFresh, IsGathered, SendsInput, ShowsAllBefore, ShowsFirst, ShowsInput, StopsAt, aim_of}
+use Rattle.irp_view.specs.Listed.{Aim, AreGathered, AreShown, AreShownBefore, AreShownUpTo, BreaksAt, Chosen, GathersBlock, HasGathered, IsFresh, IsGathered, SendsInput, ShowsAllBefore, ShowsFirst, ShowsInput, StopsAt, Taken, aim_of, taken_of}
 use Rattle.irp_view.specs.Showing.{IsShowing}
+use Rattle.irp_view.specs.Streams.{Output, streams_of}
 use Rattle.irp_view.specs.declared.listing.Gathering.{Gathering}
 use Rattle.irp_view.specs.declared.orders.Span.{Span}
 use Rattle.irp_view.specs.declared.showing.Shown.{Shown}
@@ -28,7 +29,7 @@ use Rattle.irp_view.proofs.Gathered.{shows_none}
 
 -- one more was gathered
 pub gathered_on : {E : Type 0} (result : Result (Unit {0}) E) (gathering : Gathering) (after : Shown) (aim : Aim) (transcript : TranscriptValue)
-    → gathering.wanted.choice.only ≡ aim.only → gathering.wanted.span ≡ aim.span
+    → gathering.wanted.choice.only ≡ aim.chosen.only → gathering.wanted.span ≡ aim.chosen.span
     → OnOk result (IsGathered gathering.wanted.choice.only gathering.wanted.span after aim.sent transcript)
     → OnOk result (HasGathered (record gathering { shown = after }) aim transcript)
 gathered_on (Ok done) gathering after aim transcript only span is = record {
@@ -42,16 +43,16 @@ gathered_on (Err fault) gathering after aim transcript only span is = tt
 
 -- the lines of a text, with more behind it
 first_of : (reader : Reader) (gathering : Gathering) (aim : Aim) (text more showing : List ℕ) → (are : AreGathered reader gathering aim text)
-    → aim.sent ++ gathering.shown.text.items ≡ showing → ShowsFirst aim.only aim.span (length (cut text).0) (text ++ more) showing
+    → aim.sent ++ gathering.shown.text.items ≡ showing → ShowsFirst aim.chosen (length (cut text).0) (text ++ more) showing
 first_of reader gathering aim text more showing are same = record {
   transcript = are.transcript;
   say = say_more (length (cut text).0) text more are.transcript (say_all text are.transcript are.read.lines);
-  is = subst (IsShowing aim.only aim.span are.transcript) same are.are.is.shows;
+  is = subst (IsShowing aim.chosen.only aim.chosen.span are.transcript) same are.are.is.shows;
 }
 
 -- what isn't read behind them
 pub stops_so : (line : Option ℕ) (gathering : Gathering) (aim : Aim) (text : List ℕ) → AreTakenBefore HasGathered line gathering aim text
-    → ShowsAllBefore line aim.only aim.span text (aim.sent ++ gathering.shown.text.items)
+    → ShowsAllBefore aim.chosen line text (aim.sent ++ gathering.shown.text.items)
 stops_so line gathering aim text are = record {
   count = are.count;
   all = are.all;
@@ -60,7 +61,7 @@ stops_so line gathering aim text are = record {
 
 -- nothing is left of what was gathered of the block
 pub stops_before : (reader : Reader) (gathering : Gathering) (aim : Aim) (text block left : List ℕ) → AreGathered reader gathering aim text
-    → gathering.shown.text.items ≡ [] → left ≡ [] → ShowsAllBefore None aim.only aim.span (text ++ block) (aim.sent ++ left)
+    → gathering.shown.text.items ≡ [] → left ≡ [] → ShowsAllBefore aim.chosen None (text ++ block) (aim.sent ++ left)
 stops_before reader gathering aim text block left gathered was is = record {
   count = length (cut text).0;
   all = tt;
@@ -88,34 +89,35 @@ breaks_then first second old mid new before between after fault one two = (
 
 -- what was gathered of a block, whether all of it was read or not
 pub in_block : (read : Result (Unit {0}) Unfed) (reader : Reader) (gathering : Gathering) (aim : Aim) (text : List ℕ) → GathersBlock read reader gathering aim text
-    → (count : ℕ) × ShowsFirst aim.only aim.span count text (aim.sent ++ gathering.shown.text.items)
+    → (count : ℕ) × ShowsFirst aim.chosen count text (aim.sent ++ gathering.shown.text.items)
 in_block (Ok done) reader gathering aim text gathered =
     let whole : text ++ [] ≡ text = append-nil text in (
       length (cut text).0,
-      subst (λ (given : List ℕ). ShowsFirst aim.only aim.span (length (cut text).0) given (aim.sent ++ gathering.shown.text.items)) whole
+      subst (λ (given : List ℕ). ShowsFirst aim.chosen (length (cut text).0) given (aim.sent ++ gathering.shown.text.items)) whole
           (first_of reader gathering aim text [] (aim.sent ++ gathering.shown.text.items) gathered refl),
     )
 in_block (Err unfed) reader gathering aim text gathered = (gathered.1.count, gathered.1.shows)
 
 -- the output failed
-pub block_breaks : (only : Option IrpRef) (span : Option Span) (sent gathered text : List ℕ) (old mid new : Bytes) (before between after : ℕ) (fault : Unwritten)
-    → Written sent old mid before between → BreaksOff gathered mid new between after fault → (count : ℕ) × ShowsFirst only span count text (sent ++ gathered)
-    → AreShownUpTo only span old new before after fault text
-block_breaks only span sent gathered text old mid new before between after fault written broken is = record {
+pub block_breaks : (chosen : Chosen) (sent gathered text : List ℕ) (old mid new : Output) (fault : Unwritten)
+    → Written sent old.gone mid.gone old.failures mid.failures → BreaksOff gathered mid.gone new.gone mid.failures new.failures fault
+    → (count : ℕ) × ShowsFirst chosen count text (sent ++ gathered) → AreShownUpTo chosen text old new fault
+block_breaks chosen sent gathered text old mid new fault written broken is = record {
   count = is.0;
   showing = sent ++ gathered;
   is = is.1;
-  broken = breaks_then sent gathered old mid new before between after fault written broken;
+  broken = breaks_then sent gathered old.gone mid.gone new.gone old.failures mid.failures new.failures fault written broken;
 }
 
 -- all of it went out
-pub block_sent : (reader : Reader) (only : Option IrpRef) (span : Option Span) (gathering cleared : Gathering) (sent text : List ℕ) (old mid new : Bytes) (before between after : ℕ)
-    → Written sent old mid before between → Written gathering.shown.text.items mid new between after → AreGathered reader gathering (aim_of only span sent) text
-    → cleared.shown.text.items ≡ [] → cleared.shown.entries ≡ gathering.shown.entries → cleared.shown.before_words ≡ gathering.shown.before_words
-    → cleared.wanted ≡ gathering.wanted → AreShown reader only span cleared old new before after text
-block_sent reader only span gathering cleared sent text old mid new before between after written more gathered none entries words wanted = record {
-  sent = sent ++ gathering.shown.text.items;
-  written = written_then sent gathering.shown.text.items old mid new before between after written more;
+pub block_sent : (chosen : Chosen) (taken : Taken) (cleared : Gathering) (sent : List ℕ) (old mid new : Output)
+    → Written sent old.gone mid.gone old.failures mid.failures → Written taken.gathering.shown.text.items mid.gone new.gone mid.failures new.failures
+    → AreGathered taken.reader taken.gathering (aim_of chosen sent) taken.text
+    → cleared.shown.text.items ≡ [] → cleared.shown.entries ≡ taken.gathering.shown.entries → cleared.shown.before_words ≡ taken.gathering.shown.before_words
+    → cleared.wanted ≡ taken.gathering.wanted → AreShown chosen (taken_of taken.reader cleared taken.text) old new
+block_sent chosen taken cleared sent old mid new written more gathered none entries words wanted = record {
+  sent = sent ++ taken.gathering.shown.text.items;
+  written = written_then sent taken.gathering.shown.text.items old.gone mid.gone new.gone old.failures mid.failures new.failures written more;
   none = none;
   gathered = record {
     transcript = gathered.transcript;
@@ -127,32 +129,32 @@ block_sent reader only span gathering cleared sent text old mid new before betwe
       is = record {
         counted = entries ∙ gathered.are.is.counted;
         before_words = words ∙ gathered.are.is.before_words;
-        shows = subst (IsShowing only span gathered.transcript)
-            (sym (append-nil (sent ++ gathering.shown.text.items)) ∙ ap (λ (given : List ℕ). (sent ++ gathering.shown.text.items) ++ given) (sym none)) gathered.are.is.shows;
+        shows = subst (IsShowing chosen.only chosen.span gathered.transcript)
+            (sym (append-nil (sent ++ taken.gathering.shown.text.items)) ∙ ap (λ (given : List ℕ). (sent ++ taken.gathering.shown.text.items) ++ given) (sym none)) gathered.are.is.shows;
       };
     };
   };
 }
 
 -- what was read of it did
-pub block_stops : (line : Option ℕ) (only : Option IrpRef) (span : Option Span) (sent gathered text : List ℕ) (old mid new : Bytes) (before between after : ℕ)
-    → Written sent old mid before between → Written gathered mid new between after → ShowsAllBefore line only span text (sent ++ gathered)
-    → AreShownBefore line only span old new before after text
-block_stops line only span sent gathered text old mid new before between after written more is = record {
+pub block_stops : (chosen : Chosen) (line : Option ℕ) (sent gathered text : List ℕ) (old mid new : Output)
+    → Written sent old.gone mid.gone old.failures mid.failures → Written gathered mid.gone new.gone mid.failures new.failures
+    → ShowsAllBefore chosen line text (sent ++ gathered) → AreShownBefore chosen line text old new
+block_stops chosen line sent gathered text old mid new written more is = record {
   showing = sent ++ gathered;
   is = is;
-  written = written_then sent gathered old mid new before between after written more;
+  written = written_then sent gathered old.gone mid.gone new.gone old.failures mid.failures new.failures written more;
 }
 
 -- ---- the input
 
 -- behind the header nothing was shown
-pub starts_shown : (reader : Reader) (only : Option IrpRef) (span : Option Span) (gathering : Gathering) (header : Header) (old : Bytes) (before : ℕ) (text : List ℕ)
-    → HasRead reader text (with_line no_lines (HeaderLine header)) → gathering.wanted.choice.only ≡ only → gathering.wanted.span ≡ span → IsFresh gathering.shown
-    → AreShown reader only span gathering old old before before text
-starts_shown reader only span gathering header old before text read same_only same_span fresh = record {
+pub starts_shown : (chosen : Chosen) (taken : Taken) (header : Header) (old : Output)
+    → HasRead taken.reader taken.text (with_line no_lines (HeaderLine header)) → taken.gathering.wanted.choice.only ≡ chosen.only
+    → taken.gathering.wanted.span ≡ chosen.span → IsFresh taken.gathering.shown → AreShown chosen taken old old
+starts_shown chosen taken header old read same_only same_span fresh = record {
   sent = [];
-  written = (appends_none old, refl);
+  written = (appends_none old.gone, refl);
   none = fresh.2;
   gathered = record {
     transcript = with_line no_lines (HeaderLine header);
@@ -164,108 +166,107 @@ starts_shown reader only span gathering header old before text read same_only sa
       is = record {
         counted = fresh.0;
         before_words = fresh.1;
-        shows = shows_none only span (Some header) gathering.shown.text.items fresh.2;
+        shows = shows_none chosen.only chosen.span (Some header) taken.gathering.shown.text.items fresh.2;
       };
     };
   };
 }
 
 -- a text without lines
-pub nothing_shown : (only : Option IrpRef) (span : Option Span) (left rest old : Bytes) (before : ℕ) → Holds left rest no_lines
-    → ShowsInput (Ok tt) only span left rest old old before before
-nothing_shown only span left rest old before holds =
-    (no_lines, holds, record { text = []; is = shows_none only span None [] refl; written = (appends_none old, refl) })
+pub nothing_shown : (chosen : Chosen) (left rest : Bytes) (output : Output) → Holds left rest no_lines
+    → ShowsInput (Ok tt) chosen (streams_of left output) (streams_of rest output)
+nothing_shown chosen left rest output holds =
+    (no_lines, holds, record { text = []; is = shows_none chosen.only chosen.span None [] refl; written = (appends_none output.gone, refl) })
 
 -- all that is taken was shown
-shown_before : (line : Option ℕ) (reader : Reader) (only : Option IrpRef) (span : Option Span) (gathering : Gathering) (old new : Bytes) (before after : ℕ) (text more : List ℕ)
-    → AreAllBefore line (length (cut text).0) → AreShown reader only span gathering old new before after text
-    → AreShownBefore line only span old new before after (text ++ more)
-shown_before line reader only span gathering old new before after text more all are = record {
+shown_before : (chosen : Chosen) (line : Option ℕ) (taken : Taken) (more : List ℕ) (old new : Output)
+    → AreAllBefore line (length (cut taken.text).0) → AreShown chosen taken old new → AreShownBefore chosen line (taken.text ++ more) old new
+shown_before chosen line taken more old new all are = record {
   showing = are.sent;
   is = record {
-    count = length (cut text).0;
+    count = length (cut taken.text).0;
     all = all;
-    shows = first_of reader gathering (aim_of only span are.sent) text more are.sent are.gathered (ap (λ (given : List ℕ). are.sent ++ given) are.none ∙ append-nil are.sent);
+    shows = first_of taken.reader taken.gathering (aim_of chosen are.sent) taken.text more are.sent are.gathered (ap (λ (given : List ℕ). are.sent ++ given) are.none ∙ append-nil are.sent);
   };
   written = are.written;
 }
 
-first_more : (only : Option IrpRef) (span : Option Span) (count : ℕ) (text more showing : List ℕ) → ShowsFirst only span count text showing
-    → ShowsFirst only span count (text ++ more) showing
-first_more only span count text more showing is =
+first_more : (chosen : Chosen) (count : ℕ) (text more showing : List ℕ) → ShowsFirst chosen count text showing
+    → ShowsFirst chosen count (text ++ more) showing
+first_more chosen count text more showing is =
     record { transcript = is.transcript; say = say_more count text more is.transcript is.say; is = is.is }
 
 -- a line was refused, and the rest taken
-pub refused_shown : (line told : Option ℕ) (only : Option IrpRef) (span : Option Span) (left rest old new : Bytes) (before after : ℕ) (text : List ℕ)
+pub refused_shown : (chosen : Chosen) (line told : Option ℕ) (left rest : Bytes) (text : List ℕ) (old new : Output)
     → ((count : ℕ) → AreAllBefore line count → AreAllBefore told count)
-    → FailsBehind text left rest told → AreShownBefore line only span old new before after text → StopsAt only span left rest told old new before after
-refused_shown line told only span left rest old new before after text same fails are = record {
+    → FailsBehind text left rest told → AreShownBefore chosen line text old new → StopsAt chosen told (streams_of left old) (streams_of rest new)
+refused_shown chosen line told left rest text old new same fails are = record {
   text = text ++ fails.more;
   few = fails.few;
   took = fails.took;
   none = fails.none;
   shown = record {
     showing = are.showing;
-    is = record { count = are.is.count; all = same are.is.count are.is.all; shows = first_more only span are.is.count text fails.more are.showing are.is.shows };
+    is = record { count = are.is.count; all = same are.is.count are.is.all; shows = first_more chosen are.is.count text fails.more are.showing are.is.shows };
     written = are.written;
   };
 }
 
 -- the output failed
-pub broken_shown : (fault : Unwritten) (only : Option IrpRef) (span : Option Span) (start now : Bytes) (left : ℕ) (old new : Bytes) (before after : ℕ) (text : List ℕ)
-    → IsSoFar start now left text → AreShownUpTo only span old new before after fault text → BreaksAt only span start now fault old new before after
-broken_shown fault only span start now left old new before after text so_far are =
+pub broken_shown : (chosen : Chosen) (fault : Unwritten) (start now : Bytes) (left : ℕ) (text : List ℕ) (old new : Output)
+    → IsSoFar start now left text → AreShownUpTo chosen text old new fault → BreaksAt chosen fault (streams_of start old) (streams_of now new)
+broken_shown chosen fault start now left text old new so_far are =
     record { text = text; few = omega (arith, so_far.count); took = so_far.took; shown = are }
 
 -- the next block couldn't be taken
-pub input_shown : (reader : Reader) (only : Option IrpRef) (span : Option Span) (gathering : Gathering) (start now next : Bytes) (left : ℕ) (old new : Bytes) (before after : ℕ) (text : List ℕ)
-    → IsSoFar start now left text → TakesAtMost (left + 1) now next → AreShown reader only span gathering old new before after text
-    → StopsAt only span start next None old new before after
-input_shown reader only span gathering start now next left old new before after text so_far more are = record {
-  text = text ++ more.0;
-  few = omega (arith, length-append text more.0, so_far.count, more.1);
-  took = reads_on text more.0 start now next so_far.took more.2;
+pub input_shown : (chosen : Chosen) (taken : Taken) (start now next : Bytes) (left : ℕ) (old new : Output)
+    → IsSoFar start now left taken.text → TakesAtMost (left + 1) now next → AreShown chosen taken old new
+    → StopsAt chosen None (streams_of start old) (streams_of next new)
+input_shown chosen taken start now next left old new so_far more are = record {
+  text = taken.text ++ more.0;
+  few = omega (arith, length-append taken.text more.0, so_far.count, more.1);
+  took = reads_on taken.text more.0 start now next so_far.took more.2;
   none = tt;
-  shown = shown_before None reader only span gathering old new before after text more.0 tt are;
+  shown = shown_before chosen None taken more.0 old new tt are;
 }
 
 -- the text has no newline at its end
-pub end_refused : (line : Option ℕ) (reader : Reader) (only : Option IrpRef) (span : Option Span) (gathering : Gathering) (start now : Bytes) (left : ℕ) (old new : Bytes) (before after : ℕ) (text : List ℕ)
-    → IsSoFar start now left text → IsAtEnd now → IsTextOfNone text line → AreAllBefore line (length (cut text).0) → AreShown reader only span gathering old new before after text
-    → StopsAt only span start now line old new before after
-end_refused line reader only span gathering start now left old new before after text so_far end none all are = record {
-  text = text;
+pub end_refused : (chosen : Chosen) (line : Option ℕ) (taken : Taken) (start now : Bytes) (left : ℕ) (old new : Output)
+    → IsSoFar start now left taken.text → IsAtEnd now → IsTextOfNone taken.text line → AreAllBefore line (length (cut taken.text).0) → AreShown chosen taken old new
+    → StopsAt chosen line (streams_of start old) (streams_of now new)
+end_refused chosen line taken start now left old new so_far end none all are = record {
+  text = taken.text;
   few = omega (arith, so_far.count);
   took = so_far.took;
-  none = none_of_end line start now text (is_input start now left text so_far end) none;
-  shown = subst (AreShownBefore line only span old new before after) (append-nil text) (shown_before line reader only span gathering old new before after text [] all are);
+  none = none_of_end line start now taken.text (is_input start now left taken.text so_far end) none;
+  shown = subst (λ (text : List ℕ). AreShownBefore chosen line text old new) (append-nil taken.text) (shown_before chosen line taken [] old new all are);
 }
 
 -- the text is a transcript's
-pub end_shown : (reader : Reader) (only : Option IrpRef) (span : Option Span) (gathering : Gathering) (start now : Bytes) (left : ℕ) (old new : Bytes) (before after : ℕ) (text : List ℕ)
-    → IsSoFar start now left text → IsAtEnd now → (are : AreShown reader only span gathering old new before after text) → IsTextOf text are.gathered.transcript
-    → SendsInput (Ok tt) only span start now old new before after
-end_shown reader only span gathering start now left old new before after text so_far end are is = (
+pub end_shown : (chosen : Chosen) (taken : Taken) (start now : Bytes) (left : ℕ) (old new : Output)
+    → IsSoFar start now left taken.text → IsAtEnd now → (are : AreShown chosen taken old new) → IsTextOf taken.text are.gathered.transcript
+    → SendsInput (Ok tt) chosen (streams_of start old) (streams_of now new)
+end_shown chosen taken start now left old new so_far end are is = (
   are.gathered.transcript,
-  (text, is_input start now left text so_far end, is),
+  (taken.text, is_input start now left taken.text so_far end, is),
   record {
     text = are.sent;
-    is = subst (IsShowing only span are.gathered.transcript) (ap (λ (given : List ℕ). are.sent ++ given) are.none ∙ append-nil are.sent) are.gathered.are.is.shows;
+    is = subst (IsShowing chosen.only chosen.span are.gathered.transcript) (ap (λ (given : List ℕ). are.sent ++ given) are.none ∙ append-nil are.sent) are.gathered.are.is.shows;
     written = are.written;
   },
 )
 
 -- no header was read: nothing was shown
-pub no_header : (line : Option ℕ) (only : Option IrpRef) (span : Option Span) (left rest old : Bytes) (before : ℕ) → StartsNone left rest line
-    → StopsAt only span left rest line old old before before
-no_header line only span left rest old before starts = record {
+pub no_header : (chosen : Chosen) (line : Option ℕ) (left rest : Bytes) (output : Output) → StartsNone left rest line
+    → StopsAt chosen line (streams_of left output) (streams_of rest output)
+no_header chosen line left rest output starts = record {
   text = starts.text;
   few = starts.few;
   took = starts.took;
   none = starts.none;
   shown = record {
     showing = [];
-    is = record { count = starts.count; all = starts.all; shows = record { transcript = no_lines; say = starts.say; is = shows_none only span None [] refl } };
-    written = (appends_none old, refl);
+    is = record { count = starts.count; all = starts.all; shows = record { transcript = no_lines; say = starts.say; is = shows_none chosen.only chosen.span None [] refl } };
+    written = (appends_none output.gone, refl);
   };
 }

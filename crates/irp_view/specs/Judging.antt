@@ -40,7 +40,7 @@ pub record IsJudged (judge : JudgeValue) (kept : Kept) (choice : Option Choice) 
   pub judged : HasJudged judge transcript.entries
   pub entry : IsKept transcript.entries judge.wrong kept.entry
   pub words : kept.words ≡ length transcript.words
-  pub choice : choice_of kept.draft ≡ choice
+  pub chosen : choice_of kept.draft ≡ choice
   pub drafted : AreDrafted kept.draft transcript.entries
   pub noted : HasNoted kept.refused transcript.entries
 

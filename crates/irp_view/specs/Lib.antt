@@ -11,4 +11,5 @@ pub mod Refusals
 pub mod RefusedCalls
 pub mod Sections
 pub mod Showing
+pub mod Streams
 pub mod Telling

@@ -1,44 +1,27 @@
 -- What the program does for its words.
 use Rattle.std.specs.Prelude.{ℕ, ◌≡◌, ◌⊎◌, List, MatchResult, Option, Result}
-use Rattle.irp_types.specs.declared.names.IrpRef.{IrpRef}
 use Rattle.irp_transcript.specs.Transcripts.{TranscriptValue}
 use Rattle.irp_judge.specs.Checked.{IsExplained}
 use Rattle.irp_judge.specs.declared.verdict.Verdict.{Verdict}
 use Rattle.irp_judge.specs.declared.verdict.Wrong.{Wrong}
 use Rattle.irp_feed.specs.Feeding.{HoldsNone}
-use Rattle.irp_feed.specs.Input.{Bytes, Holds}
+use Rattle.irp_feed.specs.Input.{Holds}
 use Rattle.irp_listing.specs.Writing.{BreaksOff, IsQuiet, Written}
 use Rattle.irp_listing.specs.declared.writing.Unwritten.{Unwritten}
 use Rattle.irp_page.specs.Drawing.{Draws, DrawsPart}
 use Rattle.irp_view.specs.Ending.{ending_of, of_unread, of_unwritten, of_verdict}
-use Rattle.irp_view.specs.Listed.{BreaksAt, StopsAt}
+use Rattle.irp_view.specs.Listed.{BreaksAt, Chosen, StopsAt, chosen_of}
 use Rattle.irp_view.specs.Reading.{line_of}
 use Rattle.irp_view.specs.Showing.{Shows}
+use Rattle.irp_view.specs.Streams.{Output, Streams}
 use Rattle.irp_view.specs.Telling.{Says, SaysNothing}
 use Rattle.irp_view.specs.declared.ending.Ending.{Ending}
 use Rattle.irp_view.specs.declared.ending.Ending.TheVariants.{Done}
 use Rattle.irp_view.specs.declared.orders.Order.{Order}
 use Rattle.irp_view.specs.declared.orders.Order.TheVariants.{Help, Read}
-use Rattle.irp_view.specs.declared.orders.Span.{Span}
 use Rattle.irp_view.specs.declared.orders.Task.{Task}
 use Rattle.irp_view.specs.declared.orders.Task.TheVariants.{Why, List as Listing, Draw}
 use Rattle.irp_view.specs.declared.reading.Unread.{Unread}
-
--- what went out, and how often the output failed
-pub record Output : Type 0 where
-  pub gone : Bytes
-  pub failures : ℕ
-
-abbrev pub output_of : Bytes → ℕ → Output
-output_of gone failures = record { gone = gone; failures = failures }
-
--- what is left of the input, and the output
-pub record Streams : Type 0 where
-  pub left : Bytes
-  pub output : Output
-
-abbrev pub streams_of : Bytes → Output → Streams
-streams_of left output = record { left = left; output = output }
 
 -- a text went out; or a beginning of it, before a fault
 abbrev pub Helped : Output → Output → Ending → Type 0
@@ -75,22 +58,16 @@ ReadsNone before after ending =
     × IsQuiet before.output.gone after.output.gone before.output.failures after.output.failures
 
 -- it holds none: what shows the lines before the one that is refused went out
-pub record ShowsBefore (only : Option IrpRef) (span : Option Span) (before after : Streams)
-    (ending : Ending) : Type 0 where
+pub record ShowsBefore (chosen : Chosen) (before after : Streams) (ending : Ending) : Type 0 where
   pub unread : Unread
-  pub stops :
-      StopsAt only span before.left after.left (line_of unread)
-      before.output.gone after.output.gone before.output.failures after.output.failures
+  pub stops : StopsAt chosen (line_of unread) before after
   pub ending_is : ending ≡ of_unread unread
 
 -- the output failed, or memory ran out for it, behind the first lines of the input's text: a beginning of what shows
 -- these went out
-pub record BreaksBefore (only : Option IrpRef) (span : Option Span) (before after : Streams)
-    (ending : Ending) : Type 0 where
+pub record BreaksBefore (chosen : Chosen) (before after : Streams) (ending : Ending) : Type 0 where
   pub fault : Unwritten
-  pub breaks :
-      BreaksAt only span before.left after.left fault
-      before.output.gone after.output.gone before.output.failures after.output.failures
+  pub breaks : BreaksAt chosen fault before after
   pub ending_is : ending ≡ of_unwritten fault
 
 -- what was done: the help; or what is asked of the transcript in the input, if there is one. Where entries are listed,
@@ -99,5 +76,6 @@ abbrev pub Obeys : Order → Streams → Streams → Ending → Type 0
 Obeys Help before after ending = (after.left ≡ before.left) × Helped before.output after.output ending
 Obeys (Read (Listing only span)) before after ending =
     AnswersRead (Listing only span) before after ending
-    ⊎ (ShowsBefore only span before after ending ⊎ BreaksBefore only span before after ending)
+    ⊎ (ShowsBefore (chosen_of only span) before after ending
+    ⊎ BreaksBefore (chosen_of only span) before after ending)
 Obeys (Read task) before after ending = AnswersRead task before after ending ⊎ ReadsNone before after ending

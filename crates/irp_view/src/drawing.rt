@@ -9,7 +9,8 @@ ghost use Rattle.irp_fast_reader.specs.Fed.{with_line};
 ghost use Rattle.irp_transcript.specs.Transcripts.{TranscriptValue};
 ghost use Rattle.irp_view.specs.Drafts.{AreDrafted, choice_of};
 ghost use Rattle.irp_view.specs.Judging.{IsFound};
-ghost use Rattle.irp_view.specs.Program.{Answers, output_of};
+ghost use Rattle.irp_view.specs.Program.{Answers};
+ghost use Rattle.irp_view.specs.Streams.{output_of};
 ghost use Rattle.irp_view.specs.declared.orders.Task.TheVariants.{Draw as Drawing};
 
 use crate::ending::Ending;

@@ -1,6 +1,7 @@
 //! The help.
 
-ghost use Rattle.irp_view.specs.Program.{Helped, output_of};
+ghost use Rattle.irp_view.specs.Program.{Helped};
+ghost use Rattle.irp_view.specs.Streams.{output_of};
 
 use crate::ending::Ending;
 use irp_listing::send;

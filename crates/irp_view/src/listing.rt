@@ -1,22 +1,23 @@
 //! The words `text` and `packet`: the transcript in an input, shown block after block as it is read.
 
-ghost use Rattle.std.specs.Prelude.{ℕ, ◌≡◌, ◌+◌, ◌<◌, ◌≤◌, List, [], ◌++◌, length, Option, Err};
-ghost use Rattle.irp_types.specs.declared.names.IrpRef.{IrpRef};
-ghost use Rattle.irp_fast_reader.specs.declared.reader.Reader.{Reader};
+ghost use Rattle.std.specs.Prelude.{ℕ, ◌≡◌, ◌+◌, ◌<◌, ◌≤◌, List, [], ◌++◌, length, Err};
 ghost use Rattle.irp_feed.specs.Feeding.{IsSoFar, Starts};
 ghost use Rattle.irp_feed.specs.Input.{Bytes, most_bytes};
-ghost use Rattle.irp_view.specs.declared.listing.Gathering.{Gathering};
-ghost use Rattle.irp_view.specs.declared.orders.Span.{Span};
 ghost use Rattle.irp_view.specs.Listed.{
   Aim,
   AreGathered,
   AreShown,
+  Chosen,
   GathersBlock,
   IsFresh,
   SendsInput,
   ShowsBlock,
   ShowsInput,
+  Taken,
+  chosen_of,
+  taken_of,
 };
+ghost use Rattle.irp_view.specs.Streams.{Output, Streams, output_of, streams_of};
 
 use crate::orders::Span;
 use crate::reading::{Unread, unread_behind};
@@ -104,12 +105,12 @@ fn show_block<O: Out>(
     gathering: &mut Gathering,
     block: &[u8],
 ) -> Result<(), Unsent>
-    ensures { (only : Option IrpRef) (span : Option Span) (old : Bytes) (before : ℕ) (text : List ℕ)
-        → AreShown reader.old only span gathering.old old (O.gone output.old)
-        before (O.failures output.old) text
+    ensures { (chosen : Chosen) (text : List ℕ) (before : Output)
+        → AreShown chosen (taken_of reader.old gathering.old text) before
+        (output_of (O.gone output.old) (O.failures output.old))
         → length text + length block.now ≤ most_bytes
-        → ShowsBlock result reader.new only span gathering.new old
-        (O.gone output.new) before (O.failures output.new) (text ++ block.now) }
+        → ShowsBlock result chosen (taken_of reader.new gathering.new (text ++ block.now)) before
+        (output_of (O.gone output.new) (O.failures output.new)) }
 {
     let read = gather_block(alloc, reader, gathering, block);
     match send(output, gathering.shown.text.as_slice()) {
@@ -126,11 +127,11 @@ fn show_block<O: Out>(
 fn stop<R: Read>(input: &mut R, buffer: &mut [u8], left: usize, unsent: Unsent) -> Unsent
     requires few { left ≤ most_bytes }
     requires room { 0 < length buffer.old }
-    ensures { (start : Bytes) (text : List ℕ) (reader : Reader) (only : Option IrpRef)
-        (span : Option Span) (gathering : Gathering) (old new : Bytes) (before after : ℕ)
-        → IsSoFar start (R.remaining input.old) left text
-        → ShowsBlock (Err unsent) reader only span gathering old new before after text
-        → SendsInput (Err result) only span start (R.remaining input.new) old new before after }
+    ensures { (chosen : Chosen) (taken : Taken) (start : Bytes) (before after : Output)
+        → IsSoFar start (R.remaining input.old) left taken.text
+        → ShowsBlock (Err unsent) chosen taken before after
+        → SendsInput (Err result) chosen (streams_of start before)
+        (streams_of (R.remaining input.new) after) }
 {
     match unsent {
         Unsent::Unfed(unfed) => Unsent::Unfed(refuse(input, buffer, left, unfed)),
@@ -155,9 +156,10 @@ fn show_rest<R: Read, O: Out>(
     requires fresh { IsFresh gathering.old.shown }
     ensures { (left : Bytes)
         → Starts left (R.remaining input.old) start.now reader.old buffer.old
-        → SendsInput result gathering.old.wanted.choice.only gathering.old.wanted.span left
-        (R.remaining input.new) (O.gone output.old) (O.gone output.new)
-        (O.failures output.old) (O.failures output.new) }
+        → SendsInput result (chosen_of gathering.old.wanted.choice.only gathering.old.wanted.span)
+        (streams_of left (output_of (O.gone output.old) (O.failures output.old)))
+        (streams_of (R.remaining input.new)
+        (output_of (O.gone output.new) (O.failures output.new))) }
 {
     let (mut from, mut to, mut left) = (start.from, start.to, start.left);
     loop {
@@ -192,9 +194,8 @@ fn told(
     shown: &Shown,
     sent: Result<(), Unsent>,
 ) -> Result<(), Unshown>
-    ensures { (only : Option IrpRef) (span : Option Span) (left rest old new : Bytes) (before after : ℕ)
-        → SendsInput sent only span left rest old new before after
-        → ShowsInput result only span left rest old new before after }
+    ensures { (chosen : Chosen) (before after : Streams) → SendsInput sent chosen before after
+        → ShowsInput result chosen before after }
 {
     match sent {
         Ok(()) => Ok(()),
@@ -224,8 +225,10 @@ fn show_behind<R: Read, O: Out>(
     requires few { start.now.left ≤ most_bytes }
     ensures { (left : Bytes)
         → Starts left (R.remaining input.old) start.now reader.old buffer.old
-        → ShowsInput result only span left (R.remaining input.new)
-        (O.gone output.old) (O.gone output.new) (O.failures output.old) (O.failures output.new) }
+        → ShowsInput result (chosen_of only span)
+        (streams_of left (output_of (O.gone output.old) (O.failures output.old)))
+        (streams_of (R.remaining input.new)
+        (output_of (O.gone output.new) (O.failures output.new))) }
 {
     let tells_seats = start.header.seats > 1;
     let choice = Choice { only, tells_seats };
@@ -253,8 +256,10 @@ pub fn show_transcript<R: Read, O: Out>(
     only: Option<IrpRef>,
     span: Option<Span>,
 ) -> Result<(), Unshown>
-    ensures { ShowsInput result only span (R.remaining input.old) (R.remaining input.new)
-        (O.gone output.old) (O.gone output.new) (O.failures output.old) (O.failures output.new) }
+    ensures { ShowsInput result (chosen_of only span)
+        (streams_of (R.remaining input.old) (output_of (O.gone output.old) (O.failures output.old)))
+        (streams_of (R.remaining input.new)
+        (output_of (O.gone output.new) (O.failures output.new))) }
 {
     let mut buffer = [0u8; BLOCK];
     let mut reader = Reader::new(alloc);

@@ -22,7 +22,8 @@ mod showing;
 mod why;
 mod words;
 
-ghost use Rattle.irp_view.specs.Program.{Answers, Obeys, streams_of, output_of};
+ghost use Rattle.irp_view.specs.Program.{Answers, Obeys};
+ghost use Rattle.irp_view.specs.Streams.{output_of, streams_of};
 ghost use Rattle.irp_view.specs.Judging.{IsFound};
 ghost use Rattle.irp_feed.specs.Input.{TakesAtMost, most_taken};
 ghost use Rattle.irp_view.specs.declared.orders.Order.TheVariants.{Read as AsksFor};

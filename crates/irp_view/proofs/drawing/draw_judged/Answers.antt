@@ -5,7 +5,8 @@ use Rattle.irp_judge.specs.declared.verdict.Wrong.{Wrong}
 use Rattle.irp_page.specs.declared.choosing.Choice.{Choice}
 use Rattle.irp_page.specs.declared.draft.Draft.{Draft}
 use Rattle.irp_view.specs.Drafts.{AreDrafted, choice_of}
-use Rattle.irp_view.specs.Program.{Answers, output_of}
+use Rattle.irp_view.specs.Program.{Answers}
+use Rattle.irp_view.specs.Streams.{output_of}
 use Rattle.irp_view.specs.declared.orders.Task.TheVariants.{Draw}
 use Rattle.irp_view.proofs.drawing.draw_judged.Goals as goal
 

@@ -9,11 +9,11 @@ use Rattle.irp_view.proofs.judging.judge_rest.Goals as goal
 pub returns-in-Ok : goal.returns-in-Ok
 returns-in-Ok g c = λ old starts.
     (let fed = c.in-Ok.ensures old (choice_of c.args.draft) starts
-    (starts_judged (seen c.new-judge.result) _ c.args.start.now.header c.new-judge.ensures.header c.new-judge.ensures.judged refl c.requires.fresh c.new-2.ensures refl) in
-    ((fed.0, fed.1, c.found_in.ensures.found (choice_of c.args.draft) fed.0 fed.2), c.found_in.ensures.choice ∙ fed.2.choice))
+    (starts_judged (seen c.new-judge.result) _ c.args.start.now.header c.new-judge.ensures.header c.new-judge.ensures.judged refl c.requires.fresh c.new.ensures refl) in
+    ((fed.0, fed.1, c.found_in.ensures.found (choice_of c.args.draft) fed.0 fed.2), c.found_in.ensures.choice ∙ fed.2.chosen))
 
 pub returns-in-Err : goal.returns-in-Err
 returns-in-Err g c = λ old starts.
     subst (Fails old (g.R.Read.remaining c.feed_rest.new.input)) (sym c.unread_behind.ensures)
     (c.in-Err.ensures old (choice_of c.args.draft) starts
-    (starts_judged (seen c.new-judge.result) _ c.args.start.now.header c.new-judge.ensures.header c.new-judge.ensures.judged refl c.requires.fresh c.new-2.ensures refl))
+    (starts_judged (seen c.new-judge.result) _ c.args.start.now.header c.new-judge.ensures.header c.new-judge.ensures.judged refl c.requires.fresh c.new.ensures refl))
