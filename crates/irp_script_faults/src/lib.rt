@@ -4,7 +4,6 @@
 
 mod conditions;
 mod fault;
-mod held;
 mod keys;
 mod lists;
 mod made;
@@ -13,7 +12,6 @@ mod nodes;
 mod not_json;
 mod places;
 mod small;
-mod stacks;
 mod steps;
 mod tokens;
 mod top;

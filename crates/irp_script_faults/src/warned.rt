@@ -11,8 +11,9 @@ use crate::top::key_of;
 use crate::words::{Finding, Piece, put};
 use Piece::{Number, Say, Show};
 use irp_names::major_name;
+use irp_machine::header_of;
 use irp_script_reader::{Script, ScriptParts, Section};
-use irp_types::{LockNo, Rule};
+use irp_types::{DeviceId, DispatchId, LockNo, Rule};
 use std::alloc::{AllocError, Global};
 
 /// The most warnings that are told.
@@ -73,7 +74,7 @@ fn rule_word(rule: Rule) -> &'static str {
 }
 
 /// Says that a packet is too short.
-fn tell_too_short(found: &mut Finding, node: Node, size: u8, devices: u64) -> bool {
+fn tell_too_short(found: &mut Finding, node: Node, size: u32, devices: u32) -> bool {
     let locations = if size == 1 {
         " location, "
     } else {
@@ -86,24 +87,30 @@ fn tell_too_short(found: &mut Finding, node: Node, size: u8, devices: u64) -> bo
             Number(u64::from(size)),
             Say(locations),
             Say("the stack of the target "),
-            Number(devices),
+            Number(u64::from(devices)),
             Say(" devices; allocate one for each"),
         ],
     )
 }
 
 /// Says that no device is below.
-fn tell_no_lower(found: &mut Finding, node: Node, device: u64, dispatch: u64, major: u8) -> bool {
+fn tell_no_lower(
+    found: &mut Finding,
+    node: Node,
+    device: DeviceId,
+    dispatch: DispatchId,
+    major: u8,
+) -> bool {
     let name = major_name(major).unwrap_or("the packet");
     found.wrong(
         node,
         &[
             Say("dispatch "),
-            Number(dispatch),
+            Number(u64::from(dispatch.0)),
             Say(" passes "),
             Say(name),
             Say(" down, and no device is below device "),
-            Number(device),
+            Number(u64::from(device.0)),
             Say(": it finishes with 3221225488 (STATUS_INVALID_DEVICE_REQUEST)"),
         ],
     )
@@ -211,7 +218,7 @@ fn add_warnings(
         _ => script.steps.as_slice(),
     };
     for (index, step) in steps.iter().enumerate() {
-        if let Some(concern) = made.step(script, step)? {
+        if let Some(concern) = made.step(script, index, step)? {
             if found.len() < MOST_WARNINGS {
                 found.push(warning_of(alloc, whole, section, index, concern)?)?;
             }
@@ -238,9 +245,11 @@ pub fn warnings(alloc: Global, text: &[u8], script: &Script) -> Result<Vec<Warni
         at: 0,
     };
     let parts = script.parts();
-    let mut made = Made::new(alloc, parts.labels.len())?;
+    let header = header_of(alloc, parts)?;
     let mut found = Vec::new(alloc);
+    let mut made = Made::new(alloc, &header, parts)?;
     add_warnings(alloc, &mut found, &mut made, parts, whole, Section::Setup)?;
+    let mut made = made.behind(alloc)?;
     add_warnings(alloc, &mut found, &mut made, parts, whole, Section::Steps)?;
     Ok(found)
 }
