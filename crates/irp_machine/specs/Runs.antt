@@ -1,5 +1,5 @@
 -- A script that is run step by step.
-use Rattle.std.specs.Prelude.{ℕ, ◌≡◌, false, List, [], Option, Some, None}
+use Rattle.std.specs.Prelude.{ℕ, ◌≡◌, ◌==◌, if◌then◌else◌, false, List, [], Option, Some, None}
 use Rattle.irp_types.specs.declared.entry.Entry.{Entry}
 use Rattle.irp_transcript.specs.declared.header.Header.{Header}
 use Rattle.irp_script_reader.specs.declared.script.ScriptParts.{ScriptParts}
@@ -35,7 +35,12 @@ steps_run ended = record ended {
   standing = begun ended.header ended.standing.manager ended.standing.labels;
 }
 
--- the next step of a seat was made, in this act, and this is where the seat is behind it; nothing is where it has none left
+-- the act, where it is the step of this place
+abbrev pub act_in : ℕ → Option Planned → Option Planned
+act_in step None = None
+act_in step (Some planned) = if planned.place.step == step then Some planned else None
+
+-- the next step of a seat was made, in this act, and this is where the seat is behind it; without an act nothing was
 abbrev pub RunsOn : RunValue → ℕ → Option Planned → Option After → RunValue → Type 0
 RunsOn old seat None after new = (after ≡ None) × (new ≡ old)
 RunsOn old seat (Some planned) after new =

@@ -34,3 +34,4 @@ pub use order_laws::{orders_have_histories, paths_can_be_made, replays_end_so};
 pub use outcome::{End, Holder, LockEnd, Outcome, Replies, SlotEnd};
 pub use replaying::replay;
 pub use running::Run;
+pub use standing::Standing;

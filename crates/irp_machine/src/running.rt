@@ -1,24 +1,21 @@
 //! A script that is run step by step.
 
-ghost use Rattle.std.specs.Prelude.{◌≡◌, IfOk};
-ghost use Rattle.std.specs.Option.{option_map};
-ghost use Rattle.irp_manager.specs.ManagerStates.{state_of};
-ghost use Rattle.irp_manager.specs.Slots.{live_of};
+ghost use Rattle.std.specs.Prelude.{◌≡◌, IfOk, IfSome, Some};
+ghost use Rattle.irp_types.specs.Histories.{LeadsTo};
 ghost use Rattle.irp_script_reader.specs.Sound.{IsSound};
 ghost use Rattle.irp_machine.specs.Headers.{IsHeaderOf};
 ghost use Rattle.irp_machine.specs.Machine.{act_of};
-ghost use Rattle.irp_machine.specs.Runs.{RunValue, RunsOn, setup_run, steps_run};
-ghost use Rattle.irp_machine.specs.declared.parts.Planned.{Planned};
+ghost use Rattle.irp_machine.specs.Runs.{RunsOn, act_in, setup_run, steps_run};
 
 use crate::machine::ScriptMachine;
 use crate::opening::{first_standing, machine_of, opened};
+use crate::parts::Planned;
 use crate::replaying::play_in;
 use crate::standing::Standing;
-use irp_manager::ManagerState;
-use irp_plain::{After, PlainKeep};
+use irp_plain::After;
 use irp_script_reader::ScriptParts;
 use irp_transcript::Header;
-use irp_types::{Entry, IrpRef};
+use irp_types::Entry;
 use std::alloc::{AllocError, Global};
 use std::marker::Model;
 
@@ -41,8 +38,12 @@ impl<'a> Model for Run<'a> {
     ghost use Rattle.irp_script_reader.specs.Sound.{IsSound};
     ghost use Rattle.irp_machine.specs.Headers.{IsHeaderOf};
     ghost use Rattle.irp_machine.specs.Runs.{RunValue};
+    ghost use Rattle.std.specs.Coded.{codes};
+    ghost use Rattle.std.specs.FinMap as fin;
 
     ghost Value = { RunValue };
+
+    ghost coded = { Prim.hlevel (codes, fin.code) };
 
     ghost view = { λ own. record {
       header = own.header.now;
@@ -54,7 +55,7 @@ impl<'a> Model for Run<'a> {
 
     ghost invariant = { λ own. IsHeaderOf own.script.now own.header.now × IsSound own.script.now
         × (own.machine.fixed ≡ fixed_of own.header.now)
-        × LeadsTo (fixed_of own.header.now) own.entries.items own.standing.manager.state };
+        × LeadsTo own.machine.fixed own.entries.items own.standing.manager.state };
 }
 
 impl<'a> Run<'a> {
@@ -88,7 +89,7 @@ impl<'a> Run<'a> {
     ///
     /// `AllocError` where memory runs out, or there are 2^32 steps or more.
     pub fn behind(self, alloc: Global) -> Result<Run<'a>, AllocError>
-        ensures { IfOk result (λ run. run ≡ steps_run self) }
+        ensures { IfOk result (λ run. run ≡ steps_run self.entry) }
     {
         let (header, script) = (self.header, self.script);
         let steps = script.steps.as_slice();
@@ -101,45 +102,51 @@ impl<'a> Run<'a> {
         })
     }
 
-    /// The place of the step that a seat is in, or that is its next one. None where it has none left.
-    pub fn step_of(&self, seat: u32) -> Option<u32>
-        ensures { result ≡ option_map (λ (planned : Planned). planned.place.step)
-            (act_of self.now.rules self.now.standing seat) }
+    /// The act that a seat is in, or its next one, where that is the step of this place.
+    fn act_in(&self, seat: u32, step: usize) -> Option<Planned>
+        ensures act { result ≡ act_in step (act_of self.now.rules self.now.standing seat) }
+        ensures there { IfSome result (λ planned.
+            act_of self.now.rules self.now.standing seat ≡ Some planned) }
     {
-        let planned = self.machine.act_of(&self.standing, seat as usize)?;
-        Some(planned.place.step)
+        match self.machine.act_of(&self.standing, seat as usize) {
+            Some(planned) if planned.place.step as usize == step => Some(planned),
+            _ => None,
+        }
     }
 
-    /// Makes the next atomic step of a seat, and tells where the seat is behind it. None where it has no step left.
-    pub fn play(&mut self, seat: u32) -> Result<Option<After>, AllocError>
-        ensures { IfOk result (λ after. RunsOn self.old seat
-            (act_of self.old.rules self.old.standing seat) after self.new) }
+    /// Makes the next atomic step of a seat, where that is in the step of this place, and tells where the seat is behind
+    /// it. Nothing is made, and None told, where the seat has no step left, or is in another one.
+    pub fn play(self, seat: u32, step: usize) -> Result<(Run<'a>, Option<After>), AllocError>
+        ensures plays { IfOk result (λ played. RunsOn self.entry seat
+            (act_in step (act_of self.entry.rules self.entry.standing seat)) played.1 played.0) }
     {
-        let Some(planned) = self.machine.act_of(&self.standing, seat as usize) else {
-            return Ok(None);
+        let Some(planned) = self.act_in(seat, step) else {
+            return Ok((self, None));
         };
-        let (entries, standing) = (&mut self.entries, &mut self.standing);
-        let behind = play_in(&self.machine, entries, standing, seat, planned)?;
-        Ok(Some(behind))
+        let (machine, mut standing, mut entries) = (self.machine, self.standing, self.entries);
+        let behind = play_in(&machine, &mut entries, &mut standing, seat, planned)?;
+        let run = Run {
+            header: self.header,
+            script: self.script,
+            machine,
+            standing,
+            entries,
+        };
+        Ok((run, Some(behind)))
     }
 
-    /// What each label stands for.
-    pub fn labels(&self) -> &[IrpRef]
-        ensures { result.now ≡ self.now.standing.labels }
+    /// Where the script stands.
+    pub fn standing(&self) -> &Standing
+        ensures { result.now ≡ self.now.standing }
     {
-        self.standing.labels()
+        &self.standing
     }
 
-    /// The manager.
-    pub fn manager(&self) -> &ManagerState<PlainKeep>
-        ensures { state_of live_of result.now ≡ self.now.standing.manager.state }
-    {
-        self.standing.manager()
-    }
-
-    /// The calls that were recorded.
+    /// The calls that were recorded: a legal history.
     pub fn entries(&self) -> &[Entry]
-        ensures { result.now ≡ self.now.entries }
+        ensures entries { result.now ≡ self.now.entries }
+        ensures legal { LeadsTo self.now.rules.fixed self.now.entries
+            self.now.standing.manager.state }
     {
         self.entries.as_slice()
     }

@@ -1,15 +1,24 @@
 //! What isn't meant in the steps of a script, by what they are answered as they are made in the order of the text.
 
+ghost use Rattle.std.specs.Prelude.{◌≡◌, IfOk, IfSome, Option, Some, true};
+ghost use Rattle.irp_types.specs.declared.refusal.Refusal.{Refusal as RefusalValue};
+ghost use Rattle.irp_types.specs.declared.reply.Reply.TheVariants.{Refused, Status as WithStatus};
+ghost use Rattle.irp_types.specs.declared.status.Status.{Status as StatusValue};
+ghost use Rattle.irp_plain.specs.declared.answered.Answered.{Answered as AnsweredValue};
+ghost use Rattle.irp_plain.specs.declared.answered.Answered.TheVariants.{Reply as Replied, Word as Worded};
+ghost use Rattle.irp_script_faults.specs.Warned as spec;
+ghost use Rattle.irp_script_faults.specs.Warned.{IsMade, IsTold, is_borne_out};
+
 use crate::conditions::may_be_answered;
-use irp_machine::{After, Answered, Run};
+use irp_machine::{After, Answered, Run, Standing};
 use irp_script_reader::{Condition, Named, ScriptParts, Step, StepAct};
 use irp_steps::{UNBOUND, label_at, named_by, packet_of};
-use irp_transcript::{Header, WordReply};
+use irp_transcript::WordReply;
 use irp_types::{
-    Asked, Call, CancelId, DeviceId, DispatchId, Hand, IrpRef, LockAct, LockNo, Party, Plan,
-    Refusal, Reply, Rule, Setting,
+    Asked, Call, CancelId, DeviceId, DispatchId, Hand, LockAct, LockNo, Party, Plan, Refusal,
+    Reply, Rule, Setting,
 };
-use std::alloc::{AllocError, Global};
+use std::alloc::AllocError;
 
 /// The most atomic steps of one step of a script.
 const MOST_ATOMIC: u32 = 8;
@@ -20,132 +29,152 @@ pub enum Concern {
     /// No allocate binds the label before.
     Unbound,
     /// A routine of a rule isn't there.
-    NoRoutine { rule: Rule, number: u32, count: u32 },
+    NoRoutine {
+        rule: Rule,
+        number: u32,
+        count: u32,
+    },
     /// A cancel routine isn't there.
-    NoCancel { number: u32, count: usize },
+    NoCancel {
+        number: u32,
+        count: usize,
+    },
     /// A packet has fewer locations than the stack has devices.
-    TooShort { size: u32, devices: u32 },
+    TooShort {
+        size: u32,
+        devices: u32,
+    },
     /// A packet is passed down, and there is no device below.
-    NoLower { device: DeviceId, dispatch: DispatchId, major: u8 },
+    NoLower {
+        device: DeviceId,
+        dispatch: DispatchId,
+        major: u8,
+    },
     /// A device is deleted that has a neighbour.
     Attached,
     /// A seat gives back what it doesn't hold.
-    NotHeld { seat: u32, lock: LockNo },
+    NotHeld {
+        seat: u32,
+        lock: LockNo,
+    },
     /// The step that it hangs on is never answered so.
-    NeverAnswered { step: u32 },
+    NeverAnswered {
+        step: u32,
+    },
 }
 
-/// The run of a script, and of which labels it was told that they aren't bound.
-#[derive(Drop)]
-pub struct Made<'a> {
-    run: Run<'a>,
-    told: Vec<bool>,
+/// What an act was answered, where it was answered this before.
+fn answer_behind(behind: After, answer: Option<Answered>) -> Option<Answered>
+    ensures { result ≡ spec.answer_behind behind answer }
+{
+    match behind {
+        After::Told(given) | After::Binds(given, _) => Some(given),
+        After::In(_) | After::Bound => answer,
+    }
 }
 
-impl<'a> Made<'a> {
-    /// Nothing was made yet, and the setup comes next. The one error is want of memory.
-    pub fn new(
-        alloc: Global,
-        header: &'a Header,
-        script: &'a ScriptParts,
-    ) -> Result<Made<'a>, AllocError> {
-        Ok(Made {
-            run: Run::new(alloc, header, script)?,
-            told: Vec::from_elem(alloc, false, script.labels.len())?,
-        })
-    }
-
-    /// The setup was made, and the steps come next. The one error is want of memory.
-    pub fn behind(self, alloc: Global) -> Result<Made<'a>, AllocError> {
-        Ok(Made {
-            run: self.run.behind(alloc)?,
-            told: self.told,
-        })
-    }
-
-    /// Makes the step of a place whole, and tells what it was answered. None where it is passed over.
-    fn answer(&mut self, place: usize, seat: u32) -> Result<Option<Answered>, AllocError> {
-        let mut answer = None;
-        for _ in 0..MOST_ATOMIC {
-            match self.run.step_of(seat) {
-                Some(step) if step as usize == place => {}
-                _ => break,
-            }
-            if let Some(After::Told(given) | After::Binds(given, _)) = self.run.play(seat)? {
-                answer = Some(given);
-            }
-        }
-        Ok(answer)
-    }
-
-    /// Whether an act names a label that isn't bound, of which that wasn't told before.
-    fn is_unbound(&mut self, act: StepAct) -> bool {
-        let Some(Named::Label(label)) = named_by(act) else {
-            return false;
-        };
-        match self.told.get_mut(label) {
-            Some(told) if !*told && label_at(self.run.labels(), label) == UNBOUND => {
-                *told = true;
-                true
-            }
-            _ => false,
+/// Makes a step of a script whole, and tells what it was answered. None where it is passed over.
+///
+/// # Errors
+///
+/// `AllocError` where memory runs out. It would also be the answer where a step had more atomic steps than any has.
+pub fn answer_of<'a>(
+    start: Run<'a>,
+    place: usize,
+    seat: u32,
+) -> Result<(Run<'a>, Option<Answered>), AllocError>
+    ensures { IfOk result (λ made. IsMade start.entry seat place made.1 made.0) }
+{
+    let (mut run, mut answer) = (start, None);
+    for _part in 0..MOST_ATOMIC {
+        let (next, behind) = run.play(seat, place)?;
+        run = next;
+        match behind {
+            Some(behind) => answer = answer_behind(behind, answer),
+            None => return Ok((run, answer)),
         }
     }
+    Err(AllocError)
+}
 
-    /// What isn't meant in a step that was answered so, if anything.
-    fn concern(&mut self, script: &ScriptParts, step: &Step, answer: Answered) -> Option<Concern> {
-        if self.is_unbound(step.act) {
-            return Some(Concern::Unbound);
+/// Whether an act names a label that isn't bound, of which that wasn't told before.
+fn is_unbound(standing: &Standing, told: &mut Vec<bool>, act: StepAct) -> bool {
+    let Some(Named::Label(label)) = named_by(act) else {
+        return false;
+    };
+    match told.get_mut(label) {
+        Some(told) if !*told && label_at(standing.labels(), label) == UNBOUND => {
+            *told = true;
+            true
         }
-        match (step.act, answer) {
-            (StepAct::Call(call), Answered::Reply(reply)) => {
-                of_call(&self.run, script, call, reply)
-            }
-            (act, Answered::Word(WordReply::NotHeld | WordReply::NoLock)) => {
-                not_held(act, step.seat)
-            }
-            _ => None,
-        }
+        _ => false,
     }
+}
 
-    /// Makes the step of a place, and tells what isn't meant in it, if anything. The one error is want of memory.
-    pub fn step(
-        &mut self,
-        script: &ScriptParts,
-        place: usize,
-        step: &Step,
-    ) -> Result<Option<Concern>, AllocError> {
-        let answer = self.answer(place, step.seat)?;
-        match (never_answered(script, step.condition), answer) {
-            (None, Some(answer)) => Ok(self.concern(script, step, answer)),
-            (never, _) => Ok(never),
-        }
+/// What isn't meant in a step that was answered so, if anything. Of a label that isn't bound it is told once.
+fn of_answer(
+    run: &Run,
+    script: &ScriptParts,
+    told: &mut Vec<bool>,
+    step: &Step,
+    answer: Answered,
+) -> Option<Concern>
+    ensures { IfSome result (λ concern. is_borne_out concern (Some answer) ≡ true) }
+{
+    if is_unbound(run.standing(), told, step.act) {
+        return Some(Concern::Unbound);
+    }
+    match (step.act, answer) {
+        (StepAct::Call(call), Answered::Reply(reply)) => of_call(run, script, call, reply),
+        (act, Answered::Word(reply)) => not_held(act, step.seat, reply),
+        _ => None,
+    }
+}
+
+/// What isn't meant in a step that was answered so, or passed over, if anything.
+pub fn concern_of(
+    run: &Run,
+    script: &ScriptParts,
+    told: &mut Vec<bool>,
+    step: &Step,
+    answer: Option<Answered>,
+) -> Option<Concern>
+    ensures { IsTold result answer }
+{
+    match (never_answered(script, step.condition), answer) {
+        (None, Some(answer)) => of_answer(run, script, told, step, answer),
+        (never, _) => never,
     }
 }
 
 /// The step that a condition names is never answered so.
-fn never_answered(script: &ScriptParts, condition: Option<Condition>) -> Option<Concern> {
+fn never_answered(script: &ScriptParts, condition: Option<Condition>) -> Option<Concern>
+    ensures { IfSome result (λ concern.
+        (answer : Option AnsweredValue) → is_borne_out concern answer ≡ true) }
+{
     let Condition { step, answer, .. } = condition?;
     let named = script.steps.as_slice().get(step as usize)?;
     (!may_be_answered(named.act, answer)).then_some(Concern::NeverAnswered { step })
 }
 
 /// A seat gave back what it doesn't hold.
-fn not_held(act: StepAct, seat: u32) -> Option<Concern> {
-    match act {
-        StepAct::OnLock(LockAct::Release { lock, .. } | LockAct::BeginRemove { lock, .. })
-        | StepAct::Hand(Hand { lock, .. }) => Some(Concern::NotHeld { seat, lock }),
+fn not_held(act: StepAct, seat: u32, reply: WordReply) -> Option<Concern>
+    ensures { IfSome result (λ concern. is_borne_out concern (Some (Worded reply)) ≡ true) }
+{
+    match (act, reply) {
+        (
+            StepAct::OnLock(LockAct::Release { lock, .. } | LockAct::BeginRemove { lock, .. })
+            | StepAct::Hand(Hand { lock, .. }),
+            WordReply::NotHeld | WordReply::NoLock,
+        ) => Some(Concern::NotHeld { seat, lock }),
         _ => None,
     }
 }
 
 /// What isn't meant in a call that was answered so, if anything.
-fn of_call(
-    run: &Run,
-    script: &ScriptParts,
-    call: Call<Named, u32>,
-    reply: Reply,
-) -> Option<Concern> {
+fn of_call(run: &Run, script: &ScriptParts, call: Call<Named, u32>, reply: Reply) -> Option<Concern>
+    ensures { IfSome result (λ concern. is_borne_out concern (Some (Replied reply)) ≡ true) }
+{
     match (call, reply) {
         (Call::SetRoutine { setting, .. }, _) => no_routine(script, setting),
         (Call::SetCancelRoutine { cancel, .. }, _) => no_cancel(script, cancel?),
@@ -157,7 +186,7 @@ fn of_call(
                 ..
             },
             Reply::Refused(_),
-        ) => too_short(run, packet_of(run.labels(), StepAct::Call(call)), target),
+        ) => too_short(run.standing(), StepAct::Call(call), target),
         (Call::CallDriver { .. }, Reply::Status(_)) => {
             no_lower(script, run.entries().last()?.asked.as_slice())
         }
@@ -166,7 +195,10 @@ fn of_call(
 }
 
 /// A routine that isn't there.
-fn no_routine(script: &ScriptParts, setting: Setting) -> Option<Concern> {
+fn no_routine(script: &ScriptParts, setting: Setting) -> Option<Concern>
+    ensures { IfSome result (λ concern.
+        (answer : Option AnsweredValue) → is_borne_out concern answer ≡ true) }
+{
     let mut count = 0u32;
     for routine in script.completions.as_slice() {
         if routine.rule == setting.routine.rule {
@@ -182,16 +214,23 @@ fn no_routine(script: &ScriptParts, setting: Setting) -> Option<Concern> {
 }
 
 /// A cancel routine that isn't there.
-fn no_cancel(script: &ScriptParts, cancel: CancelId) -> Option<Concern> {
+fn no_cancel(script: &ScriptParts, cancel: CancelId) -> Option<Concern>
+    ensures { IfSome result (λ concern.
+        (answer : Option AnsweredValue) → is_borne_out concern answer ≡ true) }
+{
     let count = script.cancels.as_slice().len();
     let number = cancel.0;
     (number as usize >= count).then_some(Concern::NoCancel { number, count })
 }
 
 /// A packet has fewer locations than the stack of a device has devices up to it.
-fn too_short(run: &Run, irp: IrpRef, target: DeviceId) -> Option<Concern> {
-    let packet = &run.manager().live(irp.slot)?.packet;
-    let stacks = run.manager().stacks();
+fn too_short(standing: &Standing, act: StepAct, target: DeviceId) -> Option<Concern>
+    ensures { IfSome result (λ concern. (refusal : RefusalValue)
+        → is_borne_out concern (Some (Replied (Refused refusal))) ≡ true) }
+{
+    let manager = standing.manager();
+    let packet = &manager.live(packet_of(standing.labels(), act).slot)?.packet;
+    let stacks = manager.stacks();
     if target.0 >= stacks.len() {
         return None;
     }
@@ -208,7 +247,10 @@ fn passes_down(script: &ScriptParts, dispatch: DispatchId) -> bool {
 }
 
 /// Of the dispatches that were asked the one that passes the packet down where no device is below.
-fn no_lower(script: &ScriptParts, asked: &[Asked]) -> Option<Concern> {
+fn no_lower(script: &ScriptParts, asked: &[Asked]) -> Option<Concern>
+    ensures { IfSome result (λ concern. (status : StatusValue)
+        → is_borne_out concern (Some (Replied (WithStatus status))) ≡ true) }
+{
     for one in asked {
         match *one {
             Asked::Dispatch { id, shown, .. } if !shown.has_lower && passes_down(script, id) => {
