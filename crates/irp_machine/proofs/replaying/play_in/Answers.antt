@@ -1,4 +1,4 @@
-use Rattle.std.proofs.Common.{◌≡◌, ap, subst, ◌∙◌}
+use Rattle.std.proofs.Common.{ap, subst, ◌∙◌}
 use Rattle.irp_machine.specs.Machine.{seat_at}
 use Rattle.irp_machine.specs.Next.{next_of}
 use Rattle.irp_machine.specs.Replays.{IsActed}
