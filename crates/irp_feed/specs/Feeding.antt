@@ -3,11 +3,11 @@ use Rattle.std.specs.Prelude.{ℕ, ◌≡◌, ◌+◌, ◌-◌, ◌≤◌, List,
 use Rattle.std.specs.Io.KnownBytes.{Consumes}
 use Rattle.irp_transcript.specs.Headers.{IsHeader}
 use Rattle.irp_transcript.specs.Transcripts.{TranscriptValue, no_lines}
-use Rattle.irp_transcript_reader.specs.Reading.{TakesAll, cut}
+use Rattle.irp_transcript_reader.specs.Reading.{TakesAll, cut, with_line}
 use Rattle.irp_transcript_reader.specs.declared.read_fault.ReadFault.{ReadFault}
 use Rattle.irp_transcript_reader.specs.declared.read_fault.ReadFault.TheVariants as faults
-use Rattle.irp_fast_reader.specs.Fed.{HasRead, with_line}
-use Rattle.irp_fast_reader.specs.declared.line.Line.TheVariants.{Header as HeaderLine}
+use Rattle.irp_fast_reader.specs.Fed.{HasRead}
+use Rattle.irp_transcript_reader.specs.declared.line.Line.TheVariants.{Header as HeaderLine}
 use Rattle.irp_fast_reader.specs.declared.reader.Reader.{Reader}
 use Rattle.irp_feed.specs.Input.{Bytes, Holds, IsInput, IsRefused, TakesAtMost, most_bytes, most_taken}
 use Rattle.irp_feed.specs.declared.header.Start.{Start}
