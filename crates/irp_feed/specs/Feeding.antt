@@ -9,7 +9,7 @@ use Rattle.irp_transcript_reader.specs.declared.read_fault.ReadFault.TheVariants
 use Rattle.irp_fast_reader.specs.Fed.{HasRead}
 use Rattle.irp_transcript_reader.specs.declared.line.Line.TheVariants.{Header as HeaderLine}
 use Rattle.irp_fast_reader.specs.declared.reader.Reader.{Reader}
-use Rattle.irp_feed.specs.Input.{Bytes, Holds, IsInput, IsRefused, TakesAtMost, most_bytes, most_taken}
+use Rattle.irp_feed.specs.Input.{Bytes, Holds, IsInput, IsRefused, IsTextOf, TakesAtMost, most_bytes, most_taken}
 use Rattle.irp_feed.specs.declared.header.Start.{Start}
 use Rattle.irp_feed.specs.declared.input.InputFailed.{InputFailed}
 use Rattle.irp_feed.specs.declared.unfed.RefusedLine.{RefusedLine}
@@ -108,6 +108,15 @@ pub record Starts (old new : Bytes) (start : Start) (reader : Reader) (buffer : 
   pub order : start.from ≤ start.to
   pub within : start.to ≤ length buffer
   pub so_far : IsSoFar old new start.left (text ++ piece_of buffer start.from start.to)
+
+-- what becomes of the input behind this text, whose whole lines make this transcript: its next block was taken; or it is
+-- at its end, and the text is the transcript's; or why the text isn't read on
+abbrev pub NextBlock : Result (Option ℕ) Unfed → Bytes → Bytes → ℕ → List ℕ → List ℕ → TranscriptValue → Type 0
+NextBlock (Ok (Some count)) old now left buffer text before =
+    IsSoFar old now (left - count) (text ++ take count buffer)
+NextBlock (Ok None) old now left buffer text before = IsInput old now text × IsTextOf text before
+NextBlock (Err unfed) old now left buffer text before =
+    FailsBehind text old now (refused_line unfed) × AreAllBefore (refused_line unfed) (length (cut text).0)
 
 -- what becomes of the input up to its header, where it may have no lines
 abbrev pub IsStart : Bytes → Bytes → Result (Option Start) Unfed → Reader → List ℕ → Type 0
