@@ -1,5 +1,5 @@
 pub mod Out
 pub mod Json
 pub mod Lines
-pub mod Texts
+pub mod Rows
 pub mod Puts

@@ -7,6 +7,7 @@ mod lines;
 mod names;
 mod out;
 mod parts;
+mod rows;
 mod word_lines;
 mod write;
 mod writer_out;
