@@ -14,7 +14,7 @@ use crate::head::{head, top};
 use crate::markup::Markup;
 use crate::piece::Piece;
 use crate::tag::Tag;
-use crate::words::put_lines;
+use crate::words::{listed, put_lines, spots_of};
 use crate::writing::Page;
 use crate::wrong::{behind_block, block};
 use irp_judge::Wrong;
@@ -119,10 +119,13 @@ fn put_verdict(
 
 /// The part of remove locks and cancel slots; nothing where only one packet is shown. The one error is want of memory.
 fn foot(alloc: Global, draft: &Draft) -> Result<Markup, AllocError> {
-    let mut markup = Markup::new(alloc);
-    if draft.choice.only.is_none() {
-        put_lines(alloc, &mut markup, draft.words.as_slice())?;
+    let lines = draft.words.as_slice();
+    if draft.choice.only.is_some() {
+        return Ok(Markup::new(alloc));
     }
+    let spots = spots_of(alloc, listed(lines))?;
+    let mut markup = Markup::new(alloc);
+    put_lines(&mut markup, lines, spots.as_slice());
     Ok(markup)
 }
 

@@ -1,18 +1,18 @@
 //! What stands in the boxes of a picture: two short lines, and a class of style.
 
+use crate::sink::{InWords, Sink};
 use irp_names::{RoutineWords, status_name};
-use irp_types::{Answer, Asked, CancelAnswer, Plan, Setting, Shown, Status};
-use std::fmt;
+use irp_types::{Answer, Asked, CancelAnswer, CancelId, Plan, Setting, Shown, Status};
 
 /// A status by its name without the prefix, as SUCCESS, or in hexadecimal.
 #[derive(Clone, Copy)]
 pub struct ShortStatus(pub Status);
 
-impl fmt::Display for ShortStatus {
-    fn fmt<W: fmt::Write>(&self, f: &mut fmt::Formatter<W>) -> fmt::Result {
+impl InWords for ShortStatus {
+    fn put(self, out: &mut Sink) {
         match status_name(self.0) {
-            Some(name) => f.write_str(name.strip_prefix("STATUS_").unwrap_or(name)),
-            None => write!(f, "{:#010X}", self.0.0),
+            Some(name) => out.put(name.strip_prefix("STATUS_").unwrap_or(name)),
+            None => out.show(format_args!("{:#010X}", self.0.0)),
         }
     }
 }
@@ -21,13 +21,12 @@ impl fmt::Display for ShortStatus {
 #[derive(Clone, Copy)]
 pub struct ShortResult(pub Status, pub u64);
 
-impl fmt::Display for ShortResult {
-    fn fmt<W: fmt::Write>(&self, f: &mut fmt::Formatter<W>) -> fmt::Result {
-        write!(f, "{}", ShortStatus(self.0))?;
+impl InWords for ShortResult {
+    fn put(self, out: &mut Sink) {
+        ShortStatus(self.0).put(out);
         if self.1 != 0 {
-            write!(f, ", {:#x}", self.1)?;
+            out.show(format_args!(", {:#x}", self.1));
         }
-        Ok(())
     }
 }
 
@@ -35,9 +34,10 @@ impl fmt::Display for ShortResult {
 #[derive(Clone, Copy)]
 pub struct CompletedWords(pub ShortResult);
 
-impl fmt::Display for CompletedWords {
-    fn fmt<W: fmt::Write>(&self, f: &mut fmt::Formatter<W>) -> fmt::Result {
-        write!(f, "completed: {}", self.0)
+impl InWords for CompletedWords {
+    fn put(self, out: &mut Sink) {
+        out.put("completed: ");
+        self.0.put(out);
     }
 }
 
@@ -45,9 +45,11 @@ impl fmt::Display for CompletedWords {
 #[derive(Clone, Copy)]
 pub struct Numbered(pub &'static str, pub u64, pub &'static str);
 
-impl fmt::Display for Numbered {
-    fn fmt<W: fmt::Write>(&self, f: &mut fmt::Formatter<W>) -> fmt::Result {
-        write!(f, "{}{}{}", self.0, self.1, self.2)
+impl InWords for Numbered {
+    fn put(self, out: &mut Sink) {
+        out.put(self.0);
+        out.number(self.1);
+        out.put(self.2);
     }
 }
 
@@ -55,16 +57,27 @@ impl fmt::Display for Numbered {
 #[derive(Clone, Copy)]
 pub struct FirstLine(pub Asked);
 
-impl fmt::Display for FirstLine {
-    fn fmt<W: fmt::Write>(&self, f: &mut fmt::Formatter<W>) -> fmt::Result {
+impl InWords for FirstLine {
+    fn put(self, out: &mut Sink) {
         match self.0 {
-            Asked::Dispatch { plan, .. } => f.write_str(plan_words(plan)),
+            Asked::Dispatch { plan, .. } => out.put(plan_words(plan)),
             Asked::Completion { id, answer, .. } => {
-                let did = if answer.keep { "keep" } else { "go on" };
-                write!(f, "{}: {}", RoutineWords(id), did)
+                out.show(RoutineWords(id));
+                out.put(if answer.keep { ": keep" } else { ": go on" });
             }
-            Asked::Cancel { id, .. } => write!(f, "cancel routine {}", id.0),
+            Asked::Cancel { id, .. } => CancelLine(id).put(out),
         }
+    }
+}
+
+/// A cancel routine.
+#[derive(Clone, Copy)]
+struct CancelLine(CancelId);
+
+impl InWords for CancelLine {
+    fn put(self, out: &mut Sink) {
+        out.put("cancel routine ");
+        out.number(u64::from(self.0.0));
     }
 }
 
@@ -83,18 +96,16 @@ fn plan_words(plan: Plan) -> &'static str {
 #[derive(Clone, Copy)]
 pub struct SecondLine(pub Asked);
 
-impl fmt::Display for SecondLine {
-    fn fmt<W: fmt::Write>(&self, f: &mut fmt::Formatter<W>) -> fmt::Result {
+impl InWords for SecondLine {
+    fn put(self, out: &mut Sink) {
         match self.0 {
-            Asked::Dispatch { plan, .. } => write!(f, "{}", PlanLine(plan)),
-            Asked::Completion { shown, answer, .. } => {
-                write!(f, "{}", AnswerLine { shown, answer })
-            }
+            Asked::Dispatch { plan, .. } => PlanLine(plan).put(out),
+            Asked::Completion { shown, answer, .. } => AnswerLine { shown, answer }.put(out),
             Asked::Cancel { answer, .. } => match answer {
                 CancelAnswer::Finish { information } => {
-                    write!(f, "{}", ShortResult(Status::CANCELLED, information))
+                    ShortResult(Status::CANCELLED, information).put(out)
                 }
-                CancelAnswer::Leave => f.write_str("leaves it"),
+                CancelAnswer::Leave => out.put("leaves it"),
             },
         }
     }
@@ -104,22 +115,35 @@ impl fmt::Display for SecondLine {
 #[derive(Clone, Copy)]
 struct PlanLine(Plan);
 
-impl fmt::Display for PlanLine {
-    fn fmt<W: fmt::Write>(&self, f: &mut fmt::Formatter<W>) -> fmt::Result {
+impl InWords for PlanLine {
+    fn put(self, out: &mut Sink) {
         match self.0 {
             Plan::Finish {
                 status,
                 information,
-            } => write!(f, "{}", ShortResult(status, information)),
-            Plan::Hold { cancel: Some(id) } => write!(f, "cancel routine {}", id.0),
-            Plan::Hold { cancel: None } => Ok(()),
-            Plan::HoldSlot => f.write_str("for a cancel slot"),
-            Plan::Skip => f.write_str("same location"),
-            Plan::Forward { set } | Plan::ForwardPend { set } => match set {
-                Some(setting) => write!(f, "{}", SettingLine(setting)),
-                None => Ok(()),
-            },
+            } => ShortResult(status, information).put(out),
+            Plan::Hold { cancel: Some(id) } => CancelLine(id).put(out),
+            Plan::HoldSlot => out.put("for a cancel slot"),
+            Plan::Skip => out.put("same location"),
+            Plan::Forward { set: Some(setting) } | Plan::ForwardPend { set: Some(setting) } => {
+                SettingLine(setting).put(out)
+            }
+            _ => {}
         }
+    }
+}
+
+/// Letters for the flags of a routine that is set.
+fn flags_line(setting: Setting) -> &'static str {
+    match (setting.on_success, setting.on_error, setting.on_cancel) {
+        (false, false, false) => " (never)",
+        (true, false, false) => " (s)",
+        (false, true, false) => " (e)",
+        (false, false, true) => " (c)",
+        (true, true, false) => " (se)",
+        (true, false, true) => " (sc)",
+        (false, true, true) => " (ec)",
+        (true, true, true) => " (sec)",
     }
 }
 
@@ -127,21 +151,11 @@ impl fmt::Display for PlanLine {
 #[derive(Clone, Copy)]
 struct SettingLine(Setting);
 
-impl fmt::Display for SettingLine {
-    fn fmt<W: fmt::Write>(&self, f: &mut fmt::Formatter<W>) -> fmt::Result {
-        write!(f, "sets {} (", RoutineWords(self.0.routine))?;
-        let Setting {
-            on_success,
-            on_error,
-            on_cancel,
-            ..
-        } = self.0;
-        if !on_success && !on_error && !on_cancel {
-            f.write_str("never")?;
-        }
-        f.write_str(if on_success { "s" } else { "" })?;
-        f.write_str(if on_error { "e" } else { "" })?;
-        f.write_str(if on_cancel { "c)" } else { ")" })
+impl InWords for SettingLine {
+    fn put(self, out: &mut Sink) {
+        out.put("sets ");
+        out.show(RoutineWords(self.0.routine));
+        out.put(flags_line(self.0));
     }
 }
 
@@ -152,24 +166,20 @@ struct AnswerLine {
     answer: Answer,
 }
 
-impl fmt::Display for AnswerLine {
-    fn fmt<W: fmt::Write>(&self, f: &mut fmt::Formatter<W>) -> fmt::Result {
-        let AnswerLine { shown, answer } = *self;
+impl InWords for AnswerLine {
+    fn put(self, out: &mut Sink) {
+        let AnswerLine { shown, answer } = self;
         match answer.replacement {
             Some(put) => {
-                write!(
-                    f,
-                    "{} to {}",
-                    ShortStatus(shown.status),
-                    ShortStatus(put.status)
-                )?;
+                ShortStatus(shown.status).put(out);
+                out.put(" to ");
+                ShortStatus(put.status).put(out);
             }
-            None => write!(f, "{}", ShortResult(shown.status, shown.information))?,
+            None => ShortResult(shown.status, shown.information).put(out),
         }
         if shown.pending_returned {
-            f.write_str(if answer.mark { ", marks" } else { ", pended" })?;
+            out.put(if answer.mark { ", marks" } else { ", pended" });
         }
-        Ok(())
     }
 }
 
