@@ -51,9 +51,8 @@ fn put_mark(
     let Some(wrong) = wrong else {
         return Ok(());
     };
-    let inside = block(deck, picked, wrong)?;
     page.tell(&Piece::Mark(wrong.at), Tag::Div)?;
-    page.put(inside)?;
+    page.put(block(deck, picked, wrong)?)?;
     page.close()?;
     page.put(behind_block(deck.alloc))
 }
@@ -63,9 +62,8 @@ fn put_card(page: &mut Page, deck: &Deck, picked: &Picked) -> Result<(), AllocEr
     ensures { OnOk result (Tells (item (option_copied deck.now.wrong) picked.now.place) page.old page.new) }
 {
     let wrong = wrong_at(deck, picked.place);
-    let inside = card(deck, picked, wrong)?;
     page.tell(&Piece::Entry(picked.place), Tag::Li)?;
-    page.put(inside)?;
+    page.put(card(deck, picked, wrong)?)?;
     put_mark(page, deck, picked, wrong)?;
     page.put(only(deck.alloc, "\n"))?;
     page.close()
@@ -146,8 +144,6 @@ pub(crate) fn page_of(alloc: Global, subject: &Subject) -> Result<Vec<u8>, Alloc
         (option_copied subject.now.wrong) entries text.items) }
 {
     let mut page = Page::begin(alloc, top(alloc, subject.title))?;
-    let head = head(alloc, subject)?;
-    let foot = foot(alloc, subject.draft)?;
     let deck = Deck {
         alloc,
         made: subject.draft.made.as_slice(),
@@ -155,9 +151,9 @@ pub(crate) fn page_of(alloc: Global, subject: &Subject) -> Result<Vec<u8>, Alloc
         tells_seats: has_seats(subject.header),
     };
     put_verdict(&mut page, alloc, subject.wrong, subject.draft.entries)?;
-    page.go_on(head)?;
+    page.go_on(head(alloc, subject)?)?;
     put_cards(&mut page, &deck, subject.draft.cards.as_slice())?;
     page.close()?;
-    page.put(foot)?;
+    page.put(foot(alloc, subject.draft)?)?;
     page.finish()
 }

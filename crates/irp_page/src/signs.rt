@@ -4,16 +4,11 @@ use crate::sink::{InWords, Sink};
 use irp_names::{RoutineWords, status_name};
 use irp_types::{Answer, Asked, CancelAnswer, CancelId, Plan, Setting, Shown, Status};
 
-/// A status by its name without the prefix, as SUCCESS, or in hexadecimal.
-#[derive(Clone, Copy)]
-pub struct ShortStatus(pub Status);
-
-impl InWords for ShortStatus {
-    fn put(self, out: &mut Sink) {
-        match status_name(self.0) {
-            Some(name) => out.put(name.strip_prefix("STATUS_").unwrap_or(name)),
-            None => out.show(format_args!("{:#010X}", self.0.0)),
-        }
+/// Puts a status by its name without the prefix, as SUCCESS, or in hexadecimal.
+fn put_status(out: &mut Sink, status: Status) {
+    match status_name(status) {
+        Some(name) => out.put(name.strip_prefix("STATUS_").unwrap_or(name)),
+        None => out.show(format_args!("{:#010X}", status.0)),
     }
 }
 
@@ -23,7 +18,7 @@ pub struct ShortResult(pub Status, pub u64);
 
 impl InWords for ShortResult {
     fn put(self, out: &mut Sink) {
-        ShortStatus(self.0).put(out);
+        put_status(out, self.0);
         if self.1 != 0 {
             out.show(format_args!(", {:#x}", self.1));
         }
@@ -65,20 +60,15 @@ impl InWords for FirstLine {
                 out.show(RoutineWords(id));
                 out.put(if answer.keep { ": keep" } else { ": go on" });
             }
-            Asked::Cancel { id, .. } => CancelLine(id).put(out),
+            Asked::Cancel { id, .. } => put_cancel(out, id),
         }
     }
 }
 
-/// A cancel routine.
-#[derive(Clone, Copy)]
-struct CancelLine(CancelId);
-
-impl InWords for CancelLine {
-    fn put(self, out: &mut Sink) {
-        out.put("cancel routine ");
-        out.number(u64::from(self.0.0));
-    }
+/// Puts a cancel routine.
+fn put_cancel(out: &mut Sink, id: CancelId) {
+    out.put("cancel routine ");
+    out.number(u64::from(id.0));
 }
 
 /// What a dispatch did, in a few words.
@@ -99,8 +89,8 @@ pub struct SecondLine(pub Asked);
 impl InWords for SecondLine {
     fn put(self, out: &mut Sink) {
         match self.0 {
-            Asked::Dispatch { plan, .. } => PlanLine(plan).put(out),
-            Asked::Completion { shown, answer, .. } => AnswerLine { shown, answer }.put(out),
+            Asked::Dispatch { plan, .. } => put_plan(out, plan),
+            Asked::Completion { shown, answer, .. } => put_answer(out, shown, answer),
             Asked::Cancel { answer, .. } => match answer {
                 CancelAnswer::Finish { information } => {
                     ShortResult(Status::CANCELLED, information).put(out)
@@ -111,25 +101,20 @@ impl InWords for SecondLine {
     }
 }
 
-/// The second line for a dispatch.
-#[derive(Clone, Copy)]
-struct PlanLine(Plan);
-
-impl InWords for PlanLine {
-    fn put(self, out: &mut Sink) {
-        match self.0 {
-            Plan::Finish {
-                status,
-                information,
-            } => ShortResult(status, information).put(out),
-            Plan::Hold { cancel: Some(id) } => CancelLine(id).put(out),
-            Plan::HoldSlot => out.put("for a cancel slot"),
-            Plan::Skip => out.put("same location"),
-            Plan::Forward { set: Some(setting) } | Plan::ForwardPend { set: Some(setting) } => {
-                SettingLine(setting).put(out)
-            }
-            _ => {}
+/// Puts the second line for a dispatch.
+fn put_plan(out: &mut Sink, plan: Plan) {
+    match plan {
+        Plan::Finish {
+            status,
+            information,
+        } => ShortResult(status, information).put(out),
+        Plan::Hold { cancel: Some(id) } => put_cancel(out, id),
+        Plan::HoldSlot => out.put("for a cancel slot"),
+        Plan::Skip => out.put("same location"),
+        Plan::Forward { set: Some(setting) } | Plan::ForwardPend { set: Some(setting) } => {
+            put_setting(out, setting)
         }
+        _ => {}
     }
 }
 
@@ -147,39 +132,25 @@ fn flags_line(setting: Setting) -> &'static str {
     }
 }
 
-/// A routine that is set, with letters for its flags: on success, on error, on cancel.
-#[derive(Clone, Copy)]
-struct SettingLine(Setting);
+/// Puts a routine that is set, with letters for its flags: on success, on error, on cancel.
+fn put_setting(out: &mut Sink, setting: Setting) {
+    out.put("sets ");
+    out.show(RoutineWords(setting.routine));
+    out.put(flags_line(setting));
+}
 
-impl InWords for SettingLine {
-    fn put(self, out: &mut Sink) {
-        out.put("sets ");
-        out.show(RoutineWords(self.0.routine));
-        out.put(flags_line(self.0));
+/// Puts the second line for a completion routine.
+fn put_answer(out: &mut Sink, shown: Shown, answer: Answer) {
+    match answer.replacement {
+        Some(put) => {
+            put_status(out, shown.status);
+            out.put(" to ");
+            put_status(out, put.status);
+        }
+        None => ShortResult(shown.status, shown.information).put(out),
     }
-}
-
-/// The second line for a completion routine.
-#[derive(Clone, Copy)]
-struct AnswerLine {
-    shown: Shown,
-    answer: Answer,
-}
-
-impl InWords for AnswerLine {
-    fn put(self, out: &mut Sink) {
-        let AnswerLine { shown, answer } = self;
-        match answer.replacement {
-            Some(put) => {
-                ShortStatus(shown.status).put(out);
-                out.put(" to ");
-                ShortStatus(put.status).put(out);
-            }
-            None => ShortResult(shown.status, shown.information).put(out),
-        }
-        if shown.pending_returned {
-            out.put(if answer.mark { ", marks" } else { ", pended" });
-        }
+    if shown.pending_returned {
+        out.put(if answer.mark { ", marks" } else { ", pended" });
     }
 }
 
