@@ -3,7 +3,7 @@ use Rattle.std.specs.Prelude.{ℕ, ◌≡◌, ◌<◌, ◌++◌, ◌∷◌, ◌�
 use Rattle.std.specs.Io.{StopsAt}
 use Rattle.std.specs.Io.BufRead.{take_through}
 use Rattle.std.specs.Io.KnownBytes.{Appends, Consumes}
-use Rattle.irp_transcript_writer.specs.Out.{risen}
+use Rattle.irp_streams.specs.Out.{risen}
 
 -- what is left of an input, or what went out, where that is known
 abbrev pub Bytes : Type 0

@@ -4,7 +4,7 @@ ghost use Rattle.std.specs.Prelude.{◌≡◌, IfErr, IfOk, OnErr, OnOk};
 ghost use Rattle.irp_live.specs.Streams.{Breaks, IsRead, Puts, TakesSome, output_of};
 ghost use Rattle.irp_live.specs.declared.lines.StreamFault.TheVariants.{Failed};
 
-use irp_transcript_writer::{Out, put_all};
+use irp_streams::{Out, put_all};
 use std::alloc::AllocError;
 use std::io::{BufRead, ErrorKind};
 

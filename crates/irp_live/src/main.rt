@@ -15,7 +15,7 @@ ghost use Rattle.irp_live.specs.Streams.{streams_of};
 
 use crate::ending::{Ending, ending_of};
 use crate::order::{HELP, Order, words_ask};
-use irp_transcript_writer::{Out, WriterOut};
+use irp_streams::{Out, WriterOut};
 use std::alloc::Global;
 use std::io::{self, BufRead, Write};
 use std::process::ExitCode;

@@ -1,4 +1,3 @@
-pub mod Out
 pub mod Json
 pub mod Lines
 pub mod Rows

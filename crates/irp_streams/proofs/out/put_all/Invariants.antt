@@ -1,7 +1,7 @@
 -- What went out so far is the front of the text that is done, and no put failed.
 use Rattle.std.proofs.Common.{◌≡◌, ◌≤◌, ◌-◌, length, take}
 use Rattle.std.specs.Io.KnownBytes.{Appends}
-use Rattle.irp_transcript_writer.proofs.out.put_all.Given as goal
+use Rattle.irp_streams.proofs.out.put_all.Given as goal
 
 abbrev pub invariant-loop-done : goal.invariant-loop-done
 invariant-loop-done g l = record {

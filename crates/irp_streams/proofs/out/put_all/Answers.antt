@@ -1,7 +1,7 @@
 -- One more piece of the text goes out.
 use Rattle.std.proofs.Common.{◌∙◌}
-use Rattle.irp_transcript_writer.proofs.Puts.{front_then, front_within, counted_taken}
-use Rattle.irp_transcript_writer.proofs.out.put_all.Goals as goal
+use Rattle.irp_streams.proofs.Pieces.{front_then, front_within, counted_taken}
+use Rattle.irp_streams.proofs.out.put_all.Goals as goal
 
 pub loop-done-preserved : goal.loop-done-preserved
 loop-done-preserved g c = record {

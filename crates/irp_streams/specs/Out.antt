@@ -1,6 +1,6 @@
 -- What goes out, and what counts as a failure.
 use Rattle.std.specs.Prelude.{ℕ, ◌+◌, ◌%◌, ◌^◌, ◌==◌, ◌&&◌, List, length, nat_lt, Result, Ok, Err, if◌then◌else◌}
-use Rattle.irp_transcript_writer.specs.declared.out.Failed.{Failed}
+use Rattle.irp_streams.specs.declared.out.Failed.{Failed}
 
 -- one more, in 64 bits
 abbrev pub risen : ℕ → ℕ
