@@ -3,7 +3,7 @@ use Rattle.std.proofs.Common.{◌≡◌, ◌++◌, rules, sym, ap, ◌∙◌, Li
 use Rattle.serde_json.specs.Written.{compact_text}
 use Rattle.irp_types.specs.declared.entry.Entry.{Entry}
 use Rattle.irp_transcript_writer.specs.Lines.{entry_json}
-use Rattle.irp_fast_reader.proofs.read.ByGuess.written_entry.Goals as goal
+use Rattle.irp_fast_reader.proofs.by_guess.ByGuess.written_entry.Goals as goal
 
 pub returns-then-eq : goal.returns-then-eq
 returns-then-eq c =
