@@ -1,13 +1,8 @@
 //! Questions and what came of them, in words.
 
-use irp_names::{ClosureWords, MajorWords, ResultWords, shown_of};
+use irp_names::{ClosureWords, MajorWords, ResultWords, shown_of, told_if};
 use irp_types::{Asked, DeviceId, Shown, Status};
 use std::fmt;
-
-/// These words where a flag is set, and nothing where it isn't.
-fn if_set(flag: bool, words: &'static str) -> &'static str {
-    if flag { words } else { "" }
-}
 
 /// A question, behind a mark for the way: `v` down to a dispatch, `^` up to a completion routine, `!` to a cancel
 /// routine.
@@ -87,8 +82,8 @@ impl fmt::Display for ShownToDispatch {
             shown.location,
             shown.word,
             ResultTold(shown.status, shown.information),
-            if_set(shown.cancel, ", cancelled"),
-            if_set(!shown.has_lower, ", nothing below")
+            told_if(shown.cancel, ", cancelled"),
+            told_if(!shown.has_lower, ", nothing below")
         )
     }
 }
@@ -120,8 +115,8 @@ impl fmt::Display for ShownToCompletion {
             shown.location,
             shown.context,
             ResultWords(shown.status, shown.information),
-            if_set(shown.pending_returned, ", PendingReturned"),
-            if_set(shown.cancel, ", cancelled")
+            told_if(shown.pending_returned, ", PendingReturned"),
+            told_if(shown.cancel, ", cancelled")
         )
     }
 }
