@@ -5,12 +5,12 @@ use Rattle.std.proofs.lemmas.Option.{none-some}
 use Rattle.std.specs.Io.KnownBytes.{Consumes, IsAtEnd}
 use Rattle.irp_transcript.specs.Transcripts.{TranscriptValue, no_lines}
 use Rattle.irp_transcript.specs.declared.header.Header.{Header}
-use Rattle.irp_transcript_reader.specs.Reading.{ReadsFrom, TakesAll, cut}
+use Rattle.irp_transcript_reader.specs.Reading.{ReadsFrom, TakesAll, cut, with_line}
 use Rattle.irp_transcript_reader.specs.declared.read_fault.ReadFault.{ReadFault}
 use Rattle.irp_transcript_reader.specs.declared.read_fault.ReadFault.TheVariants.{Line as LineFault, NoMemory as FaultMemory}
-use Rattle.irp_fast_reader.specs.Fed.{Gives, IsInPlace, IsNextLine, with_line}
-use Rattle.irp_fast_reader.specs.declared.line.Line.{Line}
-use Rattle.irp_fast_reader.specs.declared.line.Line.TheVariants.{Header as HeaderLine, Entry as EntryLine, Word as WordLine}
+use Rattle.irp_fast_reader.specs.Fed.{Gives, IsInPlace, IsNextLine}
+use Rattle.irp_transcript_reader.specs.declared.line.Line.{Line}
+use Rattle.irp_transcript_reader.specs.declared.line.Line.TheVariants.{Header as HeaderLine, Entry as EntryLine, Word as WordLine}
 use Rattle.irp_fast_reader.specs.declared.reader.Reader.{Reader}
 use Rattle.irp_fast_reader.proofs.Blocks.{Cut, cut_onward}
 use Rattle.irp_fast_reader.proofs.Whole.{refused_last}

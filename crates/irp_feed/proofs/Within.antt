@@ -3,12 +3,12 @@ use Rattle.std.proofs.Common.{◌≡◌, ℕ, ◌+◌, ◌<◌, ◌≤◌, ◌^�
 use Rattle.std.proofs.lemmas.List.{length-take-le, take-append-drop}
 use Rattle.std.specs.Io.KnownBytes.{IsAtEnd}
 use Rattle.irp_transcript.specs.Transcripts.{TranscriptValue}
-use Rattle.irp_transcript_reader.specs.Reading.{cut}
+use Rattle.irp_transcript_reader.specs.Reading.{cut, with_line}
 use Rattle.irp_transcript_reader.specs.declared.read_fault.ReadFault.{ReadFault}
 use Rattle.irp_transcript_reader.specs.declared.read_fault.ReadFault.TheVariants.{Line as LineFault, NoMemory as FaultMemory}
-use Rattle.irp_fast_reader.specs.Fed.{Gives, HasRead, IsInPlace, IsNextLine, with_line}
-use Rattle.irp_fast_reader.specs.declared.line.Line.{Line}
-use Rattle.irp_fast_reader.specs.declared.line.Line.TheVariants.{Header as HeaderLine, Entry as EntryLine, Word as WordLine}
+use Rattle.irp_fast_reader.specs.Fed.{Gives, HasRead, IsInPlace, IsNextLine}
+use Rattle.irp_transcript_reader.specs.declared.line.Line.{Line}
+use Rattle.irp_transcript_reader.specs.declared.line.Line.TheVariants.{Header as HeaderLine, Entry as EntryLine, Word as WordLine}
 use Rattle.irp_fast_reader.specs.declared.reader.Reader.{Reader}
 use Rattle.irp_feed.specs.Input.{Bytes, IsTextOf, most_bytes}
 use Rattle.irp_feed.specs.Feeding.{AreTaken, AreTakenBefore, FeedsBlock, FeedsRest, IsHopeless, IsSoFar, line_in, refused_line, unfed_of}

@@ -1,8 +1,8 @@
 //! The lines behind the header of a text.
 
 ghost use Rattle.std.specs.Prelude.{ℕ, ◌<◌, ◌≤◌, ◌+◌, List, ◌++◌, length};
-ghost use Rattle.irp_fast_reader.specs.declared.line.Line.TheVariants.{Header as HeaderLine};
-ghost use Rattle.irp_fast_reader.specs.Fed.{with_line};
+ghost use Rattle.irp_transcript_reader.specs.declared.line.Line.TheVariants.{Header as HeaderLine};
+ghost use Rattle.irp_transcript_reader.specs.Reading.{with_line};
 ghost use Rattle.irp_transcript.specs.Transcripts.{no_lines};
 ghost use Rattle.irp_feed.specs.Input.{Bytes, most_bytes};
 ghost use Rattle.irp_feed.specs.Feeding.{AreAllBefore, AreTaken, FailsBehind, FeedsBlock, FeedsRest, IsHopeless, IsSoFar, Starts, refused_line};

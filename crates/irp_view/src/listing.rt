@@ -28,8 +28,8 @@ use irp_feed::{
     BLOCK, LineSink, RefusedLine, Start, Unfed, feed_block, read_header, refuse, take_block,
 };
 use irp_listing::{Choice, Unwritten, send};
+use irp_streams::Out;
 use irp_transcript::Header;
-use irp_transcript_writer::Out;
 use irp_types::IrpRef;
 use std::alloc::{AllocError, Global};
 use std::io::Read;

@@ -1,10 +1,10 @@
 -- The first line is a header, or refused.
 use Rattle.std.proofs.Common.{ℕ, ◌≡◌, ◌≤◌, ◌-◌, List, ◌++◌, length, take, Option, Ok, sym, subst, ap, ◌∙◌, arith, append_assoc, length-take-le}
-use Rattle.irp_fast_reader.specs.Fed.{Gives, HasRead, with_line}
-use Rattle.irp_fast_reader.specs.declared.line.Line.{Line}
+use Rattle.irp_fast_reader.specs.Fed.{Gives, HasRead}
+use Rattle.irp_transcript_reader.specs.declared.line.Line.{Line}
 use Rattle.irp_transcript.specs.Transcripts.{no_lines}
 use Rattle.irp_transcript_reader.specs.declared.read_fault.ReadFault.{ReadFault}
-use Rattle.irp_transcript_reader.specs.Reading.{cut}
+use Rattle.irp_transcript_reader.specs.Reading.{cut, with_line}
 use Rattle.irp_feed.specs.Feeding.{AreAllBefore, IsHopeless, IsSoFar, StartsNone, line_in, piece_of, refused_line}
 use Rattle.irp_feed.specs.declared.unfed.RefusedLine.TheVariants.{NoNewline}
 use Rattle.irp_feed.proofs.Fed.{all_before, all_before_end, both_pieces, few_so_far, hopeless_of, line_told, refused_of, so_far_end, so_far_on, starts_ended, starts_refused, starts_unhad}
