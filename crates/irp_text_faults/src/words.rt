@@ -1,6 +1,7 @@
 //! What is said of a fault: words, numbers and pieces of the text.
 
 use crate::nodes::Node;
+use crate::part::Key;
 use crate::places::{Place, place_of};
 use crate::tokens::cut;
 use irp_script_reader::MemberFault;
@@ -24,8 +25,10 @@ pub enum Piece {
     Number(u64),
     /// What stands there in the text, or its beginning where that is long.
     Show(Span),
-    /// These keys.
-    Keys(&'static [&'static str]),
+    /// The names of these keys.
+    Keys(&'static [Key]),
+    /// This character of a key: none that a terminal might obey.
+    Letter(char),
 }
 
 /// What was meant, or what helps.
@@ -47,6 +50,7 @@ pub enum Remedy {
 /// says here what it finds. Where memory runs out it remembers that: then nothing is said, whatever else is put.
 #[derive(Drop)]
 pub struct Finding<'t> {
+    alloc: Global,
     text: &'t [u8],
     /// Where it stands in the text, counted in bytes.
     at: usize,
@@ -60,12 +64,18 @@ impl<'t> Finding<'t> {
     /// Nothing was found in this text yet. It takes no memory.
     pub fn new(alloc: Global, text: &'t [u8]) -> Finding<'t> {
         Finding {
+            alloc,
             text,
             at: 0,
             fault: MemberFault::BadField,
             words: Vec::new(alloc),
             ran_out: false,
         }
+    }
+
+    /// Where memory comes from.
+    pub fn alloc(&self) -> Global {
+        self.alloc
     }
 
     /// Where it stands.
@@ -88,6 +98,11 @@ impl<'t> Finding<'t> {
         if put_of(&mut self.words, self.text, pieces).is_err() {
             self.ran_out = true;
         }
+    }
+
+    /// Says these words.
+    pub fn put(&mut self, words: &'static str) {
+        self.say(&[Piece::Say(words)]);
     }
 
     /// This is wrong at a place of the text: its form, where nothing else is said. It is false.
@@ -167,13 +182,23 @@ pub fn put_number(out: &mut Vec<u8>, number: u64) -> Result<(), AllocError> {
     out.extend_from_slice(buffer.format(number).as_bytes())
 }
 
-/// Puts keys, with a comma between them. The one error is want of memory.
-fn put_keys(out: &mut Vec<u8>, keys: &[&'static str]) -> Result<(), AllocError> {
-    for (place, key) in keys.iter().enumerate() {
+/// Puts the names of keys, with a comma between them. The one error is want of memory.
+fn put_keys(out: &mut Vec<u8>, keys: &[Key]) -> Result<(), AllocError> {
+    for (place, (name, _)) in keys.iter().enumerate() {
         out.extend_from_slice(if place == 0 { "" } else { ", " }.as_bytes())?;
-        out.extend_from_slice(key.as_bytes())?;
+        out.extend_from_slice(name.as_bytes())?;
     }
     Ok(())
+}
+
+/// Puts a character of a key. The one error is want of memory.
+fn put_letter(out: &mut Vec<u8>, letter: char) -> Result<(), AllocError> {
+    match letter {
+        '"' => out.extend_from_slice(b"\\\""),
+        '\\' => out.extend_from_slice(b"\\\\"),
+        letter if letter < ' ' || ('\u{7f}' <= letter && letter < '\u{a0}') => Ok(out.push(b'?')?),
+        letter => out.extend_from_slice(letter.encode_utf8(&mut [0; 4]).as_bytes()),
+    }
 }
 
 /// Puts a word in quotation marks. The one error is want of memory.
@@ -191,6 +216,7 @@ fn put_piece(out: &mut Vec<u8>, text: &[u8], piece: Piece) -> Result<(), AllocEr
         Piece::Number(number) => put_number(out, number),
         Piece::Show(span) => put_shown(out, cut(text, span.start, span.end)),
         Piece::Keys(keys) => put_keys(out, keys),
+        Piece::Letter(letter) => put_letter(out, letter),
     }
 }
 
@@ -221,4 +247,37 @@ fn put_remedy(out: &mut Vec<u8>, remedy: Remedy) -> Result<(), AllocError> {
         ),
         Remedy::Do(words) => put(out, &[Say(". "), Say(words)]),
     }
+}
+
+/// What is numbered isn't there under this number: how many there are, and the last number. It is false.
+pub fn there_are(
+    found: &mut Finding,
+    node: Node,
+    what: &'static str,
+    number: u64,
+    count: u64,
+) -> bool {
+    let words = match count {
+        0 => " isn't there; there is none",
+        1 => " isn't there; there is one, numbered 0",
+        _ => " isn't there; there are ",
+    };
+    found.wrong(
+        node,
+        &[
+            Piece::Say(what),
+            Piece::Say(" "),
+            Piece::Number(number),
+            Piece::Say(words),
+        ],
+    );
+    if count > 1 {
+        let last = count.saturating_sub(1);
+        found.say(&[
+            Piece::Number(count),
+            Piece::Say(", numbered from 0 to "),
+            Piece::Number(last),
+        ]);
+    }
+    false
 }

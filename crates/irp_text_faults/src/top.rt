@@ -1,39 +1,13 @@
 //! What is wrong with the keys of a script and with its numbers. Source: this project's own format (docs/FORMATS.md).
 
-use crate::lists::Around;
+use crate::around::Around;
 use crate::nodes::{Node, number_of};
-use crate::steps::check_keys;
+use crate::part::Part;
+use crate::script_words::check_part;
 use crate::tokens::Kind;
 use crate::words::{Finding, Piece, Remedy};
 use Piece::{Number, Say, Show};
 use irp_script_reader::Section;
-
-/// The keys of a script of form 1.
-static KEYS: &[&str] = &[
-    "form",
-    "seats",
-    "locks",
-    "completions",
-    "cancels",
-    "dispatches",
-    "drivers",
-    "setup",
-    "steps",
-];
-
-/// The keys of a script of form 2 or 3.
-static KEYS_OF_TWO: &[&str] = &[
-    "form",
-    "seats",
-    "locks",
-    "slots",
-    "completions",
-    "cancels",
-    "dispatches",
-    "drivers",
-    "setup",
-    "steps",
-];
 
 /// A text is too long. It is false.
 pub fn too_long(found: &mut Finding, text: &[u8]) -> bool {
@@ -67,17 +41,18 @@ pub fn tell_form(found: &mut Finding, whole: Node) -> bool {
 
 /// Whether the keys of a script are right.
 pub fn check_top(found: &mut Finding, around: Around) -> bool {
-    if around.form == 2 {
-        return check_keys(found, around.whole, Say("a script of form 2"), KEYS_OF_TWO);
+    let part = match around.form {
+        2 => Part::ScriptTwo,
+        3 => Part::ScriptThree,
+        _ => Part::ScriptOne,
+    };
+    match around.whole.get("slots") {
+        Some(slots) if around.form == 1 => {
+            found.wrong(slots, &[Say("\"slots\" is no key of form 1")]);
+            found.remedy(Remedy::Do("Write \"form\":2"))
+        }
+        _ => check_part(found, around.bounds(false), around.whole, part),
     }
-    if around.form == 3 {
-        return check_keys(found, around.whole, Say("a script of form 3"), KEYS_OF_TWO);
-    }
-    if let Some(slots) = around.whole.get("slots") {
-        found.wrong(slots, &[Say("\"slots\" is no key of form 1")]);
-        return found.remedy(Remedy::Do("Write \"form\":2"));
-    }
-    check_keys(found, around.whole, Say("a script of form 1"), KEYS)
 }
 
 /// The key of a section, which has a number or a list.

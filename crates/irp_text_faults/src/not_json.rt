@@ -1,7 +1,7 @@
 //! What is wrong with a text that is no JSON.
 
+use crate::meant::{hexadecimal, major_meant, status_meant};
 use crate::nodes::Node;
-use crate::small::{hexadecimal, major_meant, status_meant};
 use crate::tokens::{Kind, Token, cut};
 use crate::words::{Finding, Piece, Remedy, Span};
 use Piece::{Say, Show};
@@ -43,16 +43,6 @@ impl Wants {
             Wants::Nothing => "nothing was expected behind the script",
         }
     }
-
-    /// Whether a value may come.
-    fn takes_value(self) -> bool {
-        matches!(self, Wants::Value | Wants::Item)
-    }
-
-    /// Whether a key may come.
-    fn takes_key(self) -> bool {
-        matches!(self, Wants::Key | Wants::Member)
-    }
 }
 
 /// What may come behind a value, in the innermost of what is open.
@@ -64,46 +54,51 @@ fn behind_value(opened: &[Kind]) -> Wants {
     }
 }
 
-/// What may come behind a comma or a colon. None where no such may stand there.
-fn behind_mark(wants: Wants, kind: Kind) -> Option<Wants> {
-    match (wants, kind) {
-        (Wants::Colon, Kind::Colon) => Some(Wants::Value),
-        (Wants::ListMore, Kind::Comma) => Some(Wants::Value),
-        (Wants::ObjectMore, Kind::Comma) => Some(Wants::Key),
-        _ => None,
-    }
+/// What a token does that may stand where it stands.
+#[derive(Clone, Copy)]
+enum Effect {
+    /// It opens a list or an object, in which this may come.
+    Opens(Wants),
+    /// It ends what is open.
+    Closes,
+    /// It is a value.
+    Ends,
+    /// This may come behind it.
+    Goes(Wants),
 }
 
-/// Whether what is open may end here.
-fn may_end(wants: Wants, kind: Kind) -> bool {
-    match kind {
-        Kind::ListEnd => matches!(wants, Wants::Item | Wants::ListMore),
-        Kind::ObjectEnd => matches!(wants, Wants::Member | Wants::ObjectMore),
-        _ => false,
+/// What a token does here. None where it may not stand here.
+fn effect_of(wants: Wants, kind: Kind) -> Option<Effect> {
+    match (wants, kind) {
+        (Wants::Value | Wants::Item, Kind::List) => Some(Effect::Opens(Wants::Item)),
+        (Wants::Value | Wants::Item, Kind::Object) => Some(Effect::Opens(Wants::Member)),
+        (Wants::Value | Wants::Item, Kind::Text | Kind::Word) => Some(Effect::Ends),
+        (Wants::Item | Wants::ListMore, Kind::ListEnd) => Some(Effect::Closes),
+        (Wants::Member | Wants::ObjectMore, Kind::ObjectEnd) => Some(Effect::Closes),
+        (Wants::Key | Wants::Member, Kind::Text) => Some(Effect::Goes(Wants::Colon)),
+        (Wants::Colon, Kind::Colon) => Some(Effect::Goes(Wants::Value)),
+        (Wants::ListMore, Kind::Comma) => Some(Effect::Goes(Wants::Value)),
+        (Wants::ObjectMore, Kind::Comma) => Some(Effect::Goes(Wants::Key)),
+        _ => None,
     }
 }
 
 /// What may come behind this token. None where it may not stand there.
 fn behind(found: &mut Finding, wants: Wants, opened: &mut Vec<Kind>, kind: Kind) -> Option<Wants> {
-    match kind {
-        Kind::List | Kind::Object if wants.takes_value() => {
+    match effect_of(wants, kind)? {
+        Effect::Goes(next) => return Some(next),
+        Effect::Opens(next) => {
             if opened.push(kind).is_err() {
                 found.run_out();
             }
-            Some(if kind == Kind::List {
-                Wants::Item
-            } else {
-                Wants::Member
-            })
+            return Some(next);
         }
-        Kind::ListEnd | Kind::ObjectEnd if may_end(wants, kind) => {
+        Effect::Closes => {
             let _ = opened.pop();
-            Some(behind_value(opened.as_slice()))
         }
-        Kind::Text if wants.takes_key() => Some(Wants::Colon),
-        Kind::Text | Kind::Word if wants.takes_value() => Some(behind_value(opened.as_slice())),
-        _ => behind_mark(wants, kind),
+        Effect::Ends => {}
     }
+    Some(behind_value(opened.as_slice()))
 }
 
 /// Whether a text or a word by itself is JSON; it is, where memory runs out.

@@ -30,6 +30,38 @@ pub fn number_of(digits: &[u8]) -> Option<u64> {
     }
 }
 
+/// What stands in a text behind a letter of ASCII, as it is or escaped. None where another one stands there.
+fn behind_letter(word: &[u8], letter: u8) -> Option<&[u8]> {
+    if word.first() == Some(&letter) {
+        return word.get(1..);
+    }
+    let digits = word.get(4..6)?;
+    if word.starts_with(b"\\u00".as_slice()) && hexadecimal_of(digits)? == u64::from(letter) {
+        word.get(6..)
+    } else {
+        None
+    }
+}
+
+/// The value of a hexadecimal digit.
+fn digit_of(byte: u8) -> Option<u64> {
+    match byte {
+        b'0'..=b'9' => Some(u64::from(byte.wrapping_sub(b'0'))),
+        b'a'..=b'f' => Some(u64::from(byte.wrapping_sub(b'a')).saturating_add(10)),
+        b'A'..=b'F' => Some(u64::from(byte.wrapping_sub(b'A')).saturating_add(10)),
+        _ => None,
+    }
+}
+
+/// The number that hexadecimal digits are. None where there are others, or from 2^64 on.
+pub fn hexadecimal_of(digits: &[u8]) -> Option<u64> {
+    let mut number = 0u64;
+    for digit in digits {
+        number = number.checked_mul(16)?.checked_add(digit_of(*digit)?)?;
+    }
+    Some(number)
+}
+
 impl<'t> Node<'t> {
     /// The value that begins with this token.
     fn moved(self, at: usize) -> Node<'t> {
@@ -129,10 +161,47 @@ impl<'t> Node<'t> {
         self.moved(self.behind().saturating_add(1))
     }
 
-    /// Whether it is a text of this word.
+    /// Whether it is a text of this word, of letters of ASCII: each may be written as it stands, or as `\u0061`.
     pub fn is_word(self, name: &str) -> bool {
-        match self.word() {
-            Some(word) => word == name.as_bytes(),
+        let mut rest = self.word();
+        for letter in name.as_bytes() {
+            rest = match rest {
+                Some(word) => behind_letter(word, *letter),
+                None => return false,
+            };
+        }
+        rest.is_some_and(|word| word.is_empty())
+    }
+
+    /// The key under which it stands. None where it stands in a list, or is the whole text.
+    pub fn key(self) -> Option<Node<'t>> {
+        let colon = self.moved(self.at.checked_sub(1)?);
+        match colon.kind() {
+            Kind::Colon => Some(self.moved(self.at.checked_sub(2)?)),
+            _ => None,
+        }
+    }
+
+    /// The item of a list, or the key of an object, in which a token stands or under which it does, with its place from
+    /// 0. None where it stands in none.
+    pub fn child_with(self, at: usize) -> Option<(usize, Node<'t>)> {
+        let is_object = self.kind() == Kind::Object;
+        let mut next = self.first();
+        for place in 0..self.tokens.len() {
+            let item = next?;
+            let value = if is_object { item.value() } else { item };
+            if value.at <= at && at < value.behind() {
+                return Some((place, item));
+            }
+            next = value.next();
+        }
+        None
+    }
+
+    /// Whether it is an object with one key.
+    pub fn has_one_key(self) -> bool {
+        match self.first() {
+            Some(key) => self.kind() == Kind::Object && key.value().next().is_none(),
             None => false,
         }
     }
@@ -168,6 +237,19 @@ impl<'t> Node<'t> {
         next
     }
 
+    /// The number at a place of a list, where there is one.
+    pub fn number_at(self, index: usize) -> Option<u64> {
+        self.nth(index)?.number()
+    }
+
+    /// How many items the list under a key has; 0 where there is none.
+    pub fn count_under(self, key: &str) -> u64 {
+        match self.get(key) {
+            Some(list) => list.count().unwrap_or(0) as u64,
+            None => 0,
+        }
+    }
+
     /// How many items a list has. None where it is no list.
     pub fn count(self) -> Option<usize> {
         if self.kind() != Kind::List {
@@ -183,8 +265,11 @@ impl<'t> Node<'t> {
         Some(self.tokens.len())
     }
 
-    /// The first word of a list: the name of a plan, an answer, a behaviour.
-    pub fn first_word(self) -> Option<&'t [u8]> {
-        self.nth(0)?.word()
+    /// Whether it is a list that begins with this word.
+    pub fn begins_with(self, name: &str) -> bool {
+        match self.nth(0) {
+            Some(first) => first.is_word(name),
+            None => false,
+        }
     }
 }

@@ -1,12 +1,15 @@
 //! The faults of a script, each with its place. Source: this project's own rule.
 
 ghost use Rattle.std.specs.Prelude.{◌≡◌, ◌∷◌, IfOk};
-ghost use Rattle.irp_script_faults.specs.Advice.{BeginsWith, IsAdviceOn};
+ghost use Rattle.irp_text_faults.specs.Advice.{BeginsWith, IsAdviceOn};
 
-use crate::lists::{Around, check_cancel, check_completion, check_driver, check_plan};
+use crate::around::Around;
+use crate::lists::{check_completion, check_driver, check_plan};
 use crate::nodes::Node;
 use crate::not_json::tell_no_json;
+use crate::part::Part;
 use crate::places::Place;
+use crate::script_words::check_part;
 use crate::steps::check_step;
 use crate::tokens::{Token, tokens_of};
 use crate::top::{check_top, key_of, no_list, tell_count, tell_form, too_long};
@@ -75,29 +78,11 @@ pub fn put_place(out: &mut Vec<u8>, place: Place) -> Result<(), AllocError> {
     )
 }
 
-/// What a script says around its members.
-fn around_of<'t>(whole: Node<'t>) -> Around<'t> {
-    Around {
-        whole,
-        form: number_under(whole, "form"),
-        seats: number_under(whole, "seats"),
-        slots: number_under(whole, "slots"),
-    }
-}
-
-/// The number under a key; 0 where there is none.
-fn number_under(whole: Node, key: &str) -> u64 {
-    match whole.get(key) {
-        Some(value) => value.number().unwrap_or(0),
-        None => 0,
-    }
-}
-
 /// Whether a member of a section is right.
 fn check_member(found: &mut Finding, around: Around, section: Section, node: Node) -> bool {
     match section {
-        Section::Completions => check_completion(found, node),
-        Section::Cancels => check_cancel(found, node),
+        Section::Completions => check_completion(found, around, node),
+        Section::Cancels => { check_part(found, around.bounds(false), node, Part::CancelAnswer) }
         Section::Dispatches => check_plan(found, around, node),
         Section::Drivers => check_driver(found, around, node),
         Section::Setup => check_step(found, around, true, node),
@@ -136,7 +121,7 @@ fn tell_member(found: &mut Finding, around: Around, section: Section, index: usi
 
 /// Says what is wrong with a section.
 fn tell_section(found: &mut Finding, whole: Node, section: Section, index: usize) {
-    let around = around_of(whole);
+    let around = Around::of(whole);
     match section {
         Section::Top => {
             if check_top(found, around) {
@@ -259,14 +244,14 @@ fn more_faults(
     let mut comes = false;
     for list in LISTS {
         if comes {
-            add_faults(alloc, &mut more, around_of(whole), *list, 0)?;
+            add_faults(alloc, &mut more, Around::of(whole), *list, 0)?;
         }
         if *list == section {
             comes = true;
             add_faults(
                 alloc,
                 &mut more,
-                around_of(whole),
+                Around::of(whole),
                 *list,
                 index.saturating_add(1),
             )?;
