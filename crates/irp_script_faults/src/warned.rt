@@ -1,17 +1,13 @@
 //! What of a script that is taken is hardly meant: calls that the manager will refuse, or that go another way than they
 //! look. Steps are followed in the order of the text. Source: this project's own rule.
 
-use crate::fault::{put_place, put_section};
 use crate::made::{Concern, Made};
-use crate::nodes::Node;
-use crate::places::Place;
-use crate::small::there_are;
-use crate::tokens::tokens_of;
-use crate::top::key_of;
-use crate::words::{Finding, Piece, put};
 use Piece::{Number, Say, Show};
 use irp_names::major_name;
 use irp_script_reader::{Script, ScriptParts, Section};
+use irp_text_faults::{
+    Finding, Node, Piece, Place, key_of, put, put_place, put_section, there_are, tokens_of,
+};
 use irp_types::{LockNo, Rule};
 use std::alloc::{AllocError, Global};
 

@@ -4,7 +4,7 @@ use Rattle.irp_types.specs.declared.names.IrpRef.{IrpRef}
 use Rattle.irp_transcript.specs.Transcripts.{TranscriptValue, no_lines}
 use Rattle.irp_transcript.specs.declared.header.Header.{Header}
 use Rattle.irp_transcript_reader.specs.Reading.{cut, with_line}
-use Rattle.irp_transcript_writer.proofs.Puts.{appends_none, appends_then}
+use Rattle.irp_streams.proofs.Pieces.{appends_none, appends_then}
 use Rattle.irp_fast_reader.specs.Fed.{HasRead}
 use Rattle.irp_transcript_reader.specs.declared.line.Line.TheVariants.{Header as HeaderLine}
 use Rattle.irp_fast_reader.specs.declared.reader.Reader.{Reader}

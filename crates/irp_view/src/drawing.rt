@@ -17,7 +17,7 @@ use crate::ending::Ending;
 use crate::judging::Judged;
 use irp_fast_reader::Line;
 use irp_page::{Draft, Subject, draw};
-use irp_transcript_writer::Out;
+use irp_streams::Out;
 use std::alloc::{AllocError, Global};
 
 /// Gives a line to a draft, where there is one. The one error is want of memory.
