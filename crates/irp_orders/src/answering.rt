@@ -35,8 +35,9 @@ use crate::table::{Columns, table};
 use irp_listing::send;
 use irp_machine::{paths_can_be_made, replay, replays_end_so};
 use irp_script_reader::{Script, read_script};
+use irp_streams::Out;
 use irp_transcript::Transcript;
-use irp_transcript_writer::{Cause, Out, write_transcript};
+use irp_transcript_writer::{Cause, write_transcript};
 use std::alloc::Global;
 use std::io::Read;
 

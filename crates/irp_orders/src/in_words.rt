@@ -8,7 +8,7 @@ use crate::asked::Order;
 use crate::ending::Ending;
 use crate::input::{TOO_MANY_BYTES, read_up_to};
 use irp_grammar::{Told, Untold, fault_lines, json, read_lines};
-use irp_transcript_writer::Out;
+use irp_streams::Out;
 use std::alloc::Global;
 use std::io::Read;
 

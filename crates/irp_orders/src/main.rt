@@ -30,7 +30,7 @@ use crate::answering::explore;
 use crate::asked::{Asked, Order, Unasked};
 use crate::ending::{Ending, NoOpen};
 use crate::in_words::explore_words;
-use irp_transcript_writer::{Out, WriterOut};
+use irp_streams::{Out, WriterOut};
 use std::alloc::Global;
 use std::env;
 use std::fs::File;

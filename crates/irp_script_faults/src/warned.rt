@@ -5,18 +5,14 @@ ghost use Rattle.std.specs.Prelude.{◌≡◌, All, IfOk, OnOk, length};
 ghost use Rattle.irp_script_faults.specs.Warned as spec;
 ghost use Rattle.irp_script_faults.specs.Warned.{AreMade, BeginsSo, IsAdded, IsBorneOut};
 
-use crate::fault::{put_place, put_section};
 use crate::made::{Concern, answer_of, concern_of};
-use crate::nodes::Node;
-use crate::places::Place;
-use crate::small::there_are;
-use crate::tokens::tokens_of;
-use crate::top::key_of;
-use crate::words::{Finding, Piece, put};
 use Piece::{Number, Say, Show};
 use irp_machine::{Run, header_of};
 use irp_names::major_name;
 use irp_script_reader::{Script, ScriptParts, Section, Step};
+use irp_text_faults::{
+    Finding, Node, Piece, Place, key_of, put, put_place, put_section, there_are, tokens_of,
+};
 use irp_types::{DeviceId, DispatchId, LockNo, Rule};
 use std::alloc::{AllocError, Global};
 

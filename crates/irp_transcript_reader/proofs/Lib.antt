@@ -1,2 +1,1 @@
-mod Cuts
-mod Kept
+pub mod Said

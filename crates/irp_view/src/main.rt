@@ -36,7 +36,7 @@ use crate::judging::{Judged, judge_input};
 use crate::listing::show_transcript;
 use crate::orders::{Asked, Order, Span, Task, Unasked};
 use irp_page::{Choice, Draft};
-use irp_transcript_writer::{Out, WriterOut};
+use irp_streams::{Out, WriterOut};
 use irp_types::IrpRef;
 use std::alloc::Global;
 use std::env;

@@ -13,7 +13,7 @@ ghost use Rattle.irp_words.specs.Telling.{Obeys};
 use crate::ending::Ending;
 use crate::input::text_of;
 use crate::orders::{Asked, Order, Task, Unasked};
-use irp_transcript_writer::{Out, WriterOut};
+use irp_streams::{Out, WriterOut};
 use std::alloc::Global;
 use std::env;
 use std::fs::File;

@@ -7,8 +7,8 @@ use Rattle.irp_judge.specs.declared.verdict.Verdict.TheVariants.{Legal}
 use Rattle.irp_transcript.specs.Headers.{fixed_of}
 use Rattle.irp_transcript.specs.Transcripts.{TranscriptValue, no_lines}
 use Rattle.irp_transcript.specs.declared.header.Header.{Header}
-use Rattle.irp_fast_reader.specs.Fed.{with_line}
-use Rattle.irp_fast_reader.specs.declared.line.Line.TheVariants.{Header as HeaderLine}
+use Rattle.irp_transcript_reader.specs.Reading.{with_line}
+use Rattle.irp_transcript_reader.specs.declared.line.Line.TheVariants.{Header as HeaderLine}
 use Rattle.irp_feed.specs.Input.{Holds}
 use Rattle.irp_feed.specs.Feeding.{StartsNone, refused_line}
 use Rattle.irp_feed.specs.Feeding as feed

@@ -11,7 +11,7 @@ use crate::not_done::{NotDone, Phase};
 use irp_fast_reader::Reader;
 use irp_feed::{BLOCK, read_header};
 use irp_judge::Verdict;
-use irp_transcript_writer::{Out, put_all};
+use irp_streams::{Out, put_all};
 use std::alloc::{AllocError, Global};
 use std::io::Read;
 

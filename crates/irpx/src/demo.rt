@@ -11,7 +11,7 @@ use crate::not_done::{NotDone, Phase};
 use crate::writing::write;
 use irp_routines::{Ask, Dispatch, Store};
 use irp_shared::{Seat, Session, Shared, Transcript, open_with_limit};
-use irp_transcript_writer::Out;
+use irp_streams::Out;
 use irp_types::{
     Call, DispatchId, DriverId, Known, KnowsNothing, Limit, LockNo, Party, Plan, Reply, Shown,
     Status,

@@ -22,7 +22,7 @@ ghost use Rattle.irpx.specs.Streams.{streams_of};
 use crate::ending::Ending;
 use crate::not_done::{NotDone, Phase};
 use crate::orders::Order;
-use irp_transcript_writer::{Out, WriterOut};
+use irp_streams::{Out, WriterOut};
 use std::alloc::Global;
 use std::env;
 use std::io::{self, Read, Write};

@@ -46,7 +46,7 @@ use irp_shared::{
     Form, Seat, Session, Shared, Transcript, TranscriptParts, WordLine, open_with_limit,
 };
 use irp_steps::{table_answer, table_cancel};
-use irp_transcript_writer::Out;
+use irp_streams::Out;
 use irp_types::{Row, Shown};
 use std::alloc::{AllocError, Global};
 use std::io::Read;

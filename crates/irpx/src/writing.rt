@@ -7,7 +7,7 @@ ghost use Rattle.irpx.specs.Writing.{Prints, StopsShort};
 use crate::not_done::{NotDone, Phase};
 use irp_fast_reader::{Unwritten, write_fitting};
 use irp_shared::Transcript;
-use irp_transcript_writer::Out;
+use irp_streams::Out;
 use std::alloc::Global;
 
 /// Writes a transcript that fits, so that it is read again as the same (this project's own format, docs/FORMATS.md).
