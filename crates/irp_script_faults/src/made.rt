@@ -1,14 +1,5 @@
 //! What isn't meant in the steps of a script, by what they are answered as they are made in the order of the text.
 
-ghost use Rattle.std.specs.Prelude.{◌≡◌, IfOk, IfSome, Option, Some, true};
-ghost use Rattle.irp_types.specs.declared.refusal.Refusal.{Refusal as RefusalValue};
-ghost use Rattle.irp_types.specs.declared.reply.Reply.TheVariants.{Refused, Status as WithStatus};
-ghost use Rattle.irp_types.specs.declared.status.Status.{Status as StatusValue};
-ghost use Rattle.irp_plain.specs.declared.answered.Answered.{Answered as AnsweredValue};
-ghost use Rattle.irp_plain.specs.declared.answered.Answered.TheVariants.{Reply as Replied, Word as Worded};
-ghost use Rattle.irp_script_faults.specs.Warned as spec;
-ghost use Rattle.irp_script_faults.specs.Warned.{IsMade, IsTold, is_borne_out};
-
 use crate::conditions::may_be_answered;
 use irp_machine::{After, Answered, Run, Standing};
 use irp_script_reader::{Condition, Named, ScriptParts, Step, StepAct};
@@ -64,9 +55,7 @@ pub enum Concern {
 }
 
 /// What an act was answered, where it was answered this before.
-fn answer_behind(behind: After, answer: Option<Answered>) -> Option<Answered>
-    ensures { result ≡ spec.answer_behind behind answer }
-{
+fn answer_behind(behind: After, answer: Option<Answered>) -> Option<Answered> {
     match behind {
         After::Told(given) | After::Binds(given, _) => Some(given),
         After::In(_) | After::Bound => answer,
@@ -82,9 +71,7 @@ pub fn answer_of<'a>(
     start: Run<'a>,
     place: usize,
     seat: u32,
-) -> Result<(Run<'a>, Option<Answered>), AllocError>
-    ensures { IfOk result (λ made. IsMade start.entry seat place made.1 made.0) }
-{
+) -> Result<(Run<'a>, Option<Answered>), AllocError> {
     let (mut run, mut answer) = (start, None);
     for _part in 0..MOST_ATOMIC {
         let (next, behind) = run.play(seat, place)?;
@@ -118,9 +105,7 @@ fn of_answer(
     told: &mut Vec<bool>,
     step: &Step,
     answer: Answered,
-) -> Option<Concern>
-    ensures { IfSome result (λ concern. is_borne_out concern (Some answer) ≡ true) }
-{
+) -> Option<Concern> {
     if is_unbound(run.standing(), told, step.act) {
         return Some(Concern::Unbound);
     }
@@ -138,9 +123,7 @@ pub fn concern_of(
     told: &mut Vec<bool>,
     step: &Step,
     answer: Option<Answered>,
-) -> Option<Concern>
-    ensures { IsTold result answer }
-{
+) -> Option<Concern> {
     match (never_answered(script, step.condition), answer) {
         (None, Some(answer)) => of_answer(run, script, told, step, answer),
         (never, _) => never,
@@ -148,19 +131,14 @@ pub fn concern_of(
 }
 
 /// The step that a condition names is never answered so.
-fn never_answered(script: &ScriptParts, condition: Option<Condition>) -> Option<Concern>
-    ensures { IfSome result (λ concern.
-        (answer : Option AnsweredValue) → is_borne_out concern answer ≡ true) }
-{
+fn never_answered(script: &ScriptParts, condition: Option<Condition>) -> Option<Concern> {
     let Condition { step, answer, .. } = condition?;
     let named = script.steps.as_slice().get(step as usize)?;
     (!may_be_answered(named.act, answer)).then_some(Concern::NeverAnswered { step })
 }
 
 /// A seat gave back what it doesn't hold.
-fn not_held(act: StepAct, seat: u32, reply: WordReply) -> Option<Concern>
-    ensures { IfSome result (λ concern. is_borne_out concern (Some (Worded reply)) ≡ true) }
-{
+fn not_held(act: StepAct, seat: u32, reply: WordReply) -> Option<Concern> {
     match (act, reply) {
         (
             StepAct::OnLock(LockAct::Release { lock, .. } | LockAct::BeginRemove { lock, .. })
@@ -172,9 +150,12 @@ fn not_held(act: StepAct, seat: u32, reply: WordReply) -> Option<Concern>
 }
 
 /// What isn't meant in a call that was answered so, if anything.
-fn of_call(run: &Run, script: &ScriptParts, call: Call<Named, u32>, reply: Reply) -> Option<Concern>
-    ensures { IfSome result (λ concern. is_borne_out concern (Some (Replied reply)) ≡ true) }
-{
+fn of_call(
+    run: &Run,
+    script: &ScriptParts,
+    call: Call<Named, u32>,
+    reply: Reply,
+) -> Option<Concern> {
     match (call, reply) {
         (Call::SetRoutine { setting, .. }, _) => no_routine(script, setting),
         (Call::SetCancelRoutine { cancel, .. }, _) => no_cancel(script, cancel?),
@@ -195,10 +176,7 @@ fn of_call(run: &Run, script: &ScriptParts, call: Call<Named, u32>, reply: Reply
 }
 
 /// A routine that isn't there.
-fn no_routine(script: &ScriptParts, setting: Setting) -> Option<Concern>
-    ensures { IfSome result (λ concern.
-        (answer : Option AnsweredValue) → is_borne_out concern answer ≡ true) }
-{
+fn no_routine(script: &ScriptParts, setting: Setting) -> Option<Concern> {
     let mut count = 0u32;
     for routine in script.completions.as_slice() {
         if routine.rule == setting.routine.rule {
@@ -214,20 +192,14 @@ fn no_routine(script: &ScriptParts, setting: Setting) -> Option<Concern>
 }
 
 /// A cancel routine that isn't there.
-fn no_cancel(script: &ScriptParts, cancel: CancelId) -> Option<Concern>
-    ensures { IfSome result (λ concern.
-        (answer : Option AnsweredValue) → is_borne_out concern answer ≡ true) }
-{
+fn no_cancel(script: &ScriptParts, cancel: CancelId) -> Option<Concern> {
     let count = script.cancels.as_slice().len();
     let number = cancel.0;
     (number as usize >= count).then_some(Concern::NoCancel { number, count })
 }
 
 /// A packet has fewer locations than the stack of a device has devices up to it.
-fn too_short(standing: &Standing, act: StepAct, target: DeviceId) -> Option<Concern>
-    ensures { IfSome result (λ concern. (refusal : RefusalValue)
-        → is_borne_out concern (Some (Replied (Refused refusal))) ≡ true) }
-{
+fn too_short(standing: &Standing, act: StepAct, target: DeviceId) -> Option<Concern> {
     let manager = standing.manager();
     let packet = &manager.live(packet_of(standing.labels(), act).slot)?.packet;
     let stacks = manager.stacks();
@@ -247,10 +219,7 @@ fn passes_down(script: &ScriptParts, dispatch: DispatchId) -> bool {
 }
 
 /// Of the dispatches that were asked the one that passes the packet down where no device is below.
-fn no_lower(script: &ScriptParts, asked: &[Asked]) -> Option<Concern>
-    ensures { IfSome result (λ concern. (status : StatusValue)
-        → is_borne_out concern (Some (Replied (WithStatus status))) ≡ true) }
-{
+fn no_lower(script: &ScriptParts, asked: &[Asked]) -> Option<Concern> {
     for one in asked {
         match *one {
             Asked::Dispatch { id, shown, .. } if !shown.has_lower && passes_down(script, id) => {

@@ -1,10 +1,6 @@
 //! What of a script that is taken is hardly meant: calls that the manager will refuse, or that go another way than they
 //! look. Steps are followed in the order of the text. Source: this project's own rule.
 
-ghost use Rattle.std.specs.Prelude.{◌≡◌, All, IfOk, OnOk, length};
-ghost use Rattle.irp_script_faults.specs.Warned as spec;
-ghost use Rattle.irp_script_faults.specs.Warned.{AreMade, BeginsSo, IsAdded, IsBorneOut};
-
 use crate::made::{Concern, answer_of, concern_of};
 use Piece::{Number, Say, Show};
 use irp_machine::{Run, header_of};
@@ -29,8 +25,6 @@ pub struct Warning {
     /// Where it stands.
     pub place: Place,
     /// What isn't meant.
-    concern: Concern,
-    /// What is said of that.
     words: Vec<u8>,
 }
 
@@ -193,10 +187,7 @@ fn warning_of(
     section: Section,
     index: usize,
     concern: Concern,
-) -> Result<Warning, AllocError>
-    ensures { IfOk result (λ warning. (warning.section ≡ section) × (warning.index ≡ index)
-        × (warning.concern ≡ concern)) }
-{
+) -> Result<Warning, AllocError> {
     let mut found = Finding::new(alloc, whole.text);
     tell(&mut found, node_of(whole, section, index, concern), concern);
     let place = found.place();
@@ -205,15 +196,12 @@ fn warning_of(
         section,
         index,
         place,
-        concern,
         words,
     })
 }
 
 /// The steps of a list.
-fn steps_in(script: &ScriptParts, section: Section) -> &[Step]
-    ensures { result.now ≡ spec.steps_in script.now section }
-{
+fn steps_in(script: &ScriptParts, section: Section) -> &[Step] {
     match section {
         Section::Setup => script.setup.as_slice(),
         _ => script.steps.as_slice(),
@@ -227,9 +215,7 @@ fn add_warning(
     section: Section,
     index: usize,
     concern: Option<Concern>,
-) -> Result<(), AllocError>
-    ensures { OnOk result (IsAdded section index concern found.old.items found.new.items) }
-{
+) -> Result<(), AllocError> {
     if let Some(concern) = concern {
         if found.len() < MOST_WARNINGS {
             let alloc = *found.allocator();
@@ -247,13 +233,7 @@ fn add_warnings<'a>(
     script: &ScriptParts,
     whole: Node,
     section: Section,
-) -> Result<Run<'a>, AllocError>
-    requires begins { BeginsSo script.now section start }
-    requires borne { All (IsBorneOut script.now) found.old.items }
-    ensures made { IfOk result (AreMade start.entry (spec.steps_in script.now section)
-        (length (spec.steps_in script.now section))) }
-    ensures borne { OnOk result (All (IsBorneOut script.now) found.new.items) }
-{
+) -> Result<Run<'a>, AllocError> {
     let steps = steps_in(script, section);
     let mut run = start;
     for index in 0..steps.len() {
@@ -275,9 +255,7 @@ fn add_warnings<'a>(
 /// # Errors
 ///
 /// Memory runs out.
-pub fn warnings(alloc: Global, text: &[u8], script: &Script) -> Result<Vec<Warning>, AllocError>
-    ensures { IfOk result (λ found. All (IsBorneOut script.now) found.items) }
-{
+pub fn warnings(alloc: Global, text: &[u8], script: &Script) -> Result<Vec<Warning>, AllocError> {
     let tokens = tokens_of(alloc, text)?;
     let whole = Node {
         text,
