@@ -2,9 +2,7 @@
 #![tactic(auto)]
 
 mod conditions;
-mod held;
 mod made;
-mod stacks;
 mod warned;
 
 pub use warned::{Warning, warnings};
