@@ -9,6 +9,7 @@ use crate::search::{Bounds, Misfit, What};
 use crate::tokens::Kind;
 use crate::words::{Finding, Piece};
 use Piece::{Keys, Letter, Number, Quoted, Say};
+use irp_names::Act;
 use serde_json::Value;
 
 /// Puts what a part may be, behind its noun.
@@ -47,14 +48,25 @@ fn put_part(found: &mut Finding, bounds: Bounds, part: Part) {
     }
 }
 
-/// The step of such a part, of form 1 or of both, whose word comes next behind this one in the order of bytes.
-fn next_word(part: Part, two: bool, behind: &str) -> Option<&'static str> {
+/// Whether a step's word stands behind that of another one in the order of bytes; it does where there is no other.
+fn is_behind(other: Option<Act>, act: Act) -> bool {
+    match other {
+        None => true,
+        Some(other) => other.word() < act.word(),
+    }
+}
+
+/// The step of such a part, of form 1 or of both, whose word comes next behind that of this one in the order of bytes.
+fn next_step(part: Part, two: bool, last: Option<Act>) -> Option<Act> {
     let mut found = None;
     for deed in deeds_of(part) {
-        let (word, is_there) = (deed.act.word(), two || deed.place != Place::FormTwo);
-        let is_next = behind < word && found.is_none_or(|other| word < other);
-        if is_there && is_next && !deed.keys.is_empty() {
-            found = Some(word);
+        let is_there = !deed.keys.is_empty() && (two || deed.place != Place::FormTwo);
+        let is_first = match found {
+            None => true,
+            Some(_) => !is_behind(found, deed.act),
+        };
+        if is_there && is_first && is_behind(last, deed.act) {
+            found = Some(deed.act);
         }
     }
     found
@@ -62,14 +74,14 @@ fn next_word(part: Part, two: bool, behind: &str) -> Option<&'static str> {
 
 /// Puts the words of the steps of such a part, of form 1 or of both, in the order of bytes, with commas.
 fn put_steps(found: &mut Finding, part: Part, two: bool) {
-    let mut last = "";
+    let mut last = None;
     for _ in deeds_of(part) {
-        let Some(word) = next_word(part, two, last) else {
+        let Some(act) = next_step(part, two, last) else {
             return;
         };
-        found.put(if last.is_empty() { "" } else { ", " });
-        found.put(word);
-        last = word;
+        found.put(if last.is_none() { "" } else { ", " });
+        found.put(act.word());
+        last = Some(act);
     }
 }
 

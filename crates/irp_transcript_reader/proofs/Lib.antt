@@ -1,1 +1,2 @@
 pub mod Said
+mod Same

@@ -234,7 +234,7 @@ pub end_shown : (chosen : Chosen) (taken : Taken) (start now : Bytes) (old new :
     → SendsInput (Ok tt) chosen (streams_of start old) (streams_of now new)
 end_shown chosen taken start now old new are is = (
   are.gathered.transcript,
-  (taken.text, is),
+  (taken.text, is.0, is.1),
   record {
     text = are.sent;
     is = subst (IsShowing chosen.only chosen.span are.gathered.transcript) (ap (λ (given : List ℕ). are.sent ++ given) are.none ∙ append-nil are.sent) are.gathered.are.is.shows;

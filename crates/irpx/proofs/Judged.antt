@@ -17,7 +17,7 @@ use Rattle.irp_feed.specs.declared.unfed.Unfed.TheVariants as unfed
 use Rattle.irp_feed.proofs.Fed.{fails_at_start}
 use Rattle.irpx.specs.Checking.{HasVerdict}
 use Rattle.irpx.specs.Judging.{Fails, IsJudged, refusal_of}
-use Rattle.irpx.specs.Streams.{Bytes}
+use Rattle.irp_streams.specs.Streams.{Bytes}
 
 -- behind the header nothing was judged
 pub starts_judged : (judge : JudgeValue) (header : Header) → judge.header ≡ header → HasJudged judge [] → IsJudged judge (with_line no_lines (HeaderLine header))

@@ -6,7 +6,7 @@ use Rattle.irp_transcript_writer.specs.Lines.{lines, text_of}
 use Rattle.irp_streams.specs.Out.{risen}
 use Rattle.irp_fast_reader.specs.Fits.{Fits}
 use Rattle.irp_fast_reader.specs.Fitting.{Begins, IsReadBack, StopsAt}
-use Rattle.irpx.specs.Streams.{Output}
+use Rattle.irp_streams.specs.Streams.{Output}
 use Rattle.irpx.specs.declared.not_done.NotDone.{NotDone}
 use Rattle.irpx.specs.declared.not_done.NotDone.TheVariants as fault
 use Rattle.irpx.specs.declared.not_done.Phase.TheVariants.{Writing}

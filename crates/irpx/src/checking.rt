@@ -4,7 +4,7 @@ ghost use Rattle.std.specs.Prelude.{IfErr, IfOk, OnOk, ◌≡◌};
 ghost use Rattle.irp_feed.specs.Input.{most_taken};
 ghost use Rattle.irpx.specs.Checking.{Checks, Told, Untold, verdict_line};
 ghost use Rattle.irpx.specs.Judging.{Ends};
-ghost use Rattle.irpx.specs.Streams.{TakesAtMost, output_of, streams_of};
+ghost use Rattle.irp_streams.specs.Streams.{TakesAtMost, output_of, streams_of};
 
 use crate::judging::{judge_rest, refusal};
 use crate::not_done::{NotDone, Phase};

@@ -5,7 +5,7 @@ ghost use Rattle.irp_types.specs.declared.limit.Limit.TheVariants.{Sixteen};
 ghost use Rattle.irp_shared.specs.Answered.{AnswersSo};
 ghost use Rattle.irp_transcript.specs.Tokens.{needs_token};
 ghost use Rattle.irpx.specs.Demo.{calls_of, AfterDemo, AreDemoCalls, IsDemoTranscript};
-ghost use Rattle.irpx.specs.Streams.{output_of};
+ghost use Rattle.irp_streams.specs.Streams.{output_of};
 
 use crate::not_done::{NotDone, Phase};
 use crate::writing::write;

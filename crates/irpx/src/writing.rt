@@ -1,7 +1,7 @@
 //! Writing a transcript.
 
 ghost use Rattle.std.specs.Prelude.{IfErr, OnOk};
-ghost use Rattle.irpx.specs.Streams.{output_of};
+ghost use Rattle.irp_streams.specs.Streams.{output_of};
 ghost use Rattle.irpx.specs.Writing.{Prints, StopsShort};
 
 use crate::not_done::{NotDone, Phase};

@@ -1,5 +1,5 @@
 -- Block after block is shown, up to the end of the input.
-use Rattle.std.proofs.Common.{ℕ, ◌-◌, List, ◌++◌, Option, Ok, refl, subst, ◌∙◌, arith}
+use Rattle.std.proofs.Common.{ℕ, ◌-◌, ◌<◌, ◌≤◌, List, ◌++◌, length, Option, IfSome, Ok, refl, subst, ◌∙◌, arith}
 use Rattle.irp_feed.specs.Feeding.{IsSoFar, NextBlock, piece_of, refused_line}
 use Rattle.irp_feed.proofs.Fed.{few_so_far, whole_piece}
 use Rattle.irp_view.specs.Listed.{chosen_of, taken_of}
@@ -25,7 +25,7 @@ loop-unsent-preserved g c = record {
   few = omega (arith, c.loop-unsent.invariant.few);
   room = c.next_block.ensures.room ∙ c.loop-unsent.invariant.room;
   order = omega arith;
-  within = c.in-Ok-Some.ensures.bound.2;
+  within = (subst (λ (next : Option ℕ). IfSome next (λ count. (0 < count) × (count ≤ c.loop-unsent.left) × (count ≤ length c.next_block.new.buffer))) c.in-Ok-Some.field-0-is c.in-Ok-Some.ensures.bound).2;
   so_far = λ old starts.
       (let inv = c.loop-unsent.invariant.so_far old starts in
       let block : List ℕ = piece_of c.loop-unsent.buffer c.loop-unsent.from c.loop-unsent.to in
