@@ -19,6 +19,7 @@ mod to_words;
 mod wanted;
 mod written;
 
+pub use act::{Key, keys_of};
 pub use cursor::{WordsFault, fault_lines};
 pub use law::{Told, Untold, json};
 pub use read::read_lines;

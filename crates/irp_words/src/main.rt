@@ -6,6 +6,7 @@ mod ending;
 mod help;
 mod input;
 mod orders;
+mod tables;
 mod telling;
 
 ghost use Rattle.irp_words.specs.Telling.{Obeys};
@@ -64,6 +65,7 @@ fn run_on<O: Out, E: Out>(
 ) -> Ending {
     let task = match asked.order {
         Order::Help => return help::help(output),
+        Order::Tables => return tables::tell_tables(rt.alloc(), output),
         Order::Read(task) => task,
     };
     let Some(name) = asked.file else {
