@@ -1,5 +1,6 @@
 -- A text that comes block after block: its lines, and what becomes of it where one more is taken or refused.
-use Rattle.std.proofs.Common.{◌≡◌, ◌≢◌, ℕ, zero, suc, ◌+◌, ◌<◌, ◌==◌, List, [], ◌∷◌, ◌++◌, length, take, drop, get_or, false, Result, Ok, Err, refl, sym, subst, ap, ◌∙◌, arith, inl, inr, append_assoc, append-nil, length-append}
+use Rattle.std.proofs.Common.{◌≡◌, ◌≢◌, ℕ, zero, suc, ◌+◌, ◌-◌, ◌<◌, ◌==◌, List, [], ◌∷◌, ◌++◌, length, take, drop, get_or, false, Result, Ok, Err, refl, sym, subst, ap, ◌∙◌, arith, inl, inr, append_assoc, append-nil, length-append, length-drop}
+use Rattle.std.proofs.Math.Seq.{take-length}
 use Rattle.std.proofs.lemmas.Bool.{cases_eq, eq-eqb, ne_eqb}
 use Rattle.irp_transcript.specs.Transcripts.{TranscriptValue, no_lines}
 use Rattle.irp_transcript_reader.specs.Reading.{cut, most_bytes, onto, ReadsFrom, Refuses, Takes, TakesAll}
@@ -38,6 +39,10 @@ joined_at (byte ∷ bytes) zero within newline = ap (λ first. first ∷ bytes) 
 joined_at (byte ∷ bytes) (suc place) within newline =
     let one : suc place + 1 ≡ suc (place + 1) = omega arith in
     rw one (ap (λ rest. byte ∷ rest) (joined_at bytes place (omega arith) newline))
+
+-- the rest of a list, as a range to its end gives it
+pub piece : {X : Type 0} (count : ℕ) (list : List X) → take (length list - count) (drop count list) ≡ drop count list
+piece count list = rw (← length-drop count list) (take-length (drop count list))
 
 -- no line ends before it
 pub bare_at : (bytes : List ℕ) (place : ℕ) → NoneBelow place bytes → IsBare (take place bytes)
@@ -141,7 +146,8 @@ cut_kept text block bare =
 
 -- ---- what is read
 
-reads_on : (before between : TranscriptValue) (count : ℕ) (answer : Result TranscriptValue ReadFault) (line : List ℕ) (others : List (List ℕ)) (rest : List ℕ)
+-- one line more
+pub reads_on : (before between : TranscriptValue) (count : ℕ) (answer : Result TranscriptValue ReadFault) (line : List ℕ) (others : List (List ℕ)) (rest : List ℕ)
     → Takes before line between → ReadsFrom between (count + 1) answer (others, rest) → ReadsFrom before count answer (line ∷ others, rest)
 reads_on before between count (Ok transcript) line others rest taken reads = (reads.0, (between, taken, reads.1))
 reads_on before between count (Err (Line number)) line others rest taken reads = (suc reads.0, omega (arith, reads.1), (between, taken, reads.2))
@@ -158,7 +164,7 @@ reads_behind count before between (line ∷ lines) others rest answer (next, tak
     reads_on before next count answer line (lines ++ others) rest takes
     (reads_behind (count + 1) next between lines others rest answer taken (subst (λ (place : ℕ). ReadsFrom between place answer (others, rest)) more reads))
 
--- one line more
+-- and taken
 pub takes_one : (before between after : TranscriptValue) (lines : List (List ℕ)) (line : List ℕ) → TakesAll before lines between → Takes between line after
     → TakesAll before (lines ++ line ∷ []) after
 takes_one before between after [] line taken takes = (after, subst (λ (given : TranscriptValue). Takes given line after) (sym taken) takes, refl)
@@ -173,6 +179,11 @@ reads_block text more before answer taken reads =
     subst (ReadsFrom no_lines 0 answer) (sym (cut_onward text more))
     (reads_behind 0 no_lines before (cut text).0 (cut ((cut text).1 ++ more)).0 (cut ((cut text).1 ++ more)).1 answer taken
     (subst (λ (count : ℕ). ReadsFrom before count answer (cut ((cut text).1 ++ more))) same reads))
+
+-- there are no more lines
+pub reads_end : (before : TranscriptValue) (count : ℕ) (rest : List ℕ) → length rest ≡ 0 → ReadsFrom before count (Ok before) (cut rest)
+reads_end before count [] none = (refl, refl)
+reads_end before count (byte ∷ rest) none = absurd (omega (arith, none))
 
 -- a line that is too long is refused, whatever its end is
 refused_long : (before : TranscriptValue) (count : ℕ) (front : List ℕ) (given : Cut) → most_bytes < length front

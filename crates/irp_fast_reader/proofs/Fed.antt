@@ -5,10 +5,10 @@ use Rattle.std.proofs.lemmas.List.{take_more}
 use Rattle.irp_forms.specs.declared.unread.Unread.{Unread}
 use Rattle.irp_forms.specs.declared.unread.Unread.TheVariants as unread
 use Rattle.irp_transcript.specs.Transcripts.{TranscriptValue, no_lines}
-use Rattle.irp_transcript_reader.specs.Reading.{cut, most_bytes, onto, ReadsFrom, Refuses, TakesAll}
+use Rattle.irp_transcript_reader.specs.Reading.{cut, most_bytes, onto, with_line, ReadsFrom, Refuses, TakesAll}
 use Rattle.irp_transcript_reader.specs.declared.read_fault.ReadFault.TheVariants.{Line as LineFault}
-use Rattle.irp_fast_reader.specs.Fed.{Given, Gives, HasRead, HasTaken, IsNextLine, Keeps, fault_at, with_line}
-use Rattle.irp_fast_reader.specs.declared.line.Line.{Line}
+use Rattle.irp_fast_reader.specs.Fed.{Given, Gives, HasRead, HasTaken, IsNextLine, Keeps, fault_at}
+use Rattle.irp_transcript_reader.specs.declared.line.Line.{Line}
 use Rattle.irp_fast_reader.specs.declared.line_reader.LineReader.{LineReader}
 use Rattle.irp_fast_reader.specs.declared.reader.Reader.{Reader}
 use Rattle.irp_fast_reader.proofs.Blocks.{Cut, IsBare, NoneBelow, bare_at, cut_kept, cut_line, joined_at, reads_behind, refused_end, takes_one, too_long}

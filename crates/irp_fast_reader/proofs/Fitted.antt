@@ -10,7 +10,8 @@ use Rattle.irp_transcript.specs.declared.{header.Header.Header, word_line.WordLi
 use Rattle.irp_transcript_reader.specs.Reading.{most_entries}
 use Rattle.irp_transcript_writer.specs.Json.{line_text}
 use Rattle.irp_transcript_writer.specs.Lines.{entry_json, header_json, header_lines, lines, text_of, word_json}
-use Rattle.irp_transcript_writer.proofs.Puts.{all_sent, appends_kept, first_stopped, second_stopped, text_one, third_stopped}
+use Rattle.irp_streams.proofs.Pieces.{appends_kept}
+use Rattle.irp_transcript_writer.proofs.Puts.{all_sent, first_stopped, second_stopped, text_one, third_stopped}
 use Rattle.irp_fast_reader.specs.Fits.{EntryUnder, IsShort, LineFits, WordUnder}
 use Rattle.irp_fast_reader.specs.Laws.{WrittenIsRead}
 use Rattle.irp_fast_reader.specs.Fitting.{AnyHeader, Begins, Bytes, IsReadBack, PutsLine, PutsLines, StopsAt, Writes}

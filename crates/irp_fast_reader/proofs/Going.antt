@@ -8,7 +8,8 @@ use Rattle.serde_json.specs.Written.{compact_text}
 use Rattle.irp_transcript_writer.specs.Json.{line_text}
 use Rattle.irp_transcript_writer.specs.Lines.{text_of}
 use Rattle.irp_transcript_writer.specs.Puts.{told, Sent, Stopped}
-use Rattle.irp_transcript_writer.proofs.Puts.{appends_kept, sent_next, sent_none, stopped_next}
+use Rattle.irp_streams.proofs.Pieces.{appends_kept}
+use Rattle.irp_transcript_writer.proofs.Puts.{sent_next, sent_none, stopped_next}
 use Rattle.irp_fast_reader.specs.Fits.{LineFits}
 use Rattle.irp_fast_reader.specs.Fitting.{Begins, Bytes, Counts, PutsLine, PutsLines}
 use Rattle.irp_fast_reader.specs.declared.unfit.{Unfit.Unfit, Unwritten.Unwritten}

@@ -2,7 +2,7 @@
 use Rattle.std.proofs.Common.{◌≡◌, ℕ, zero, suc, ◌+◌, ◌<◌, ◌≤◌, List, [], ◌∷◌, ◌++◌, length, map, Option, Some, None, Result, Ok, Err, refl, sym, subst, ap, ◌∙◌, arith, append_assoc, append-nil, length-append}
 use Rattle.std.specs.Prelude.{⊤}
 use Rattle.std.specs.List.{All}
-use Rattle.std.proofs.lemmas.Bool.{lt-ltb, ne_eqb}
+use Rattle.std.proofs.lemmas.Bool.{lt-ltb, ne_eqb, true≢false}
 use Rattle.std.proofs.lemmas.List.Elements.{All-head, All-tail}
 use Rattle.std.proofs.lemmas.Option.{same_Some}
 use Rattle.serde_json.specs.Data.{Data}
@@ -12,9 +12,11 @@ use Rattle.irp_types.specs.declared.entry.Entry.{Entry}
 use Rattle.irp_transcript.specs.Headers.{IsHeader}
 use Rattle.irp_transcript.specs.Transcripts.{TranscriptValue, IsTranscript, no_lines}
 use Rattle.irp_transcript.specs.declared.{header.Header.Header, word_line.WordLine.WordLine}
-use Rattle.irp_transcript_reader.specs.Reading.{IsLine, IsNext, IsNextUnder, ReadsFrom, RefusedAt, Takes, TakesAll, cut, most_entries, onto, with_entry, with_line, with_word}
+use Rattle.irp_transcript_reader.specs.Reading.{IsLine, IsNext, ReadsFrom, RefusedAt, Says, Takes, TakesAll, cut, most_entries, onto, seen_of, with_line}
+use Rattle.irp_transcript_reader.specs.declared.{line.Line.Line, seen.Seen.Seen}
+use Rattle.irp_transcript_reader.specs.declared.line.Line.TheVariants.{Header as HeaderLine, Entry as EntryLine, Word as WordLineOf}
 use Rattle.irp_transcript_reader.specs.declared.read_fault.ReadFault.{ReadFault}
-use Rattle.irp_transcript_reader.specs.declared.read_fault.ReadFault.TheVariants.{Line, NoMemory}
+use Rattle.irp_transcript_reader.specs.declared.read_fault.ReadFault.TheVariants.{Line as LineFault, NoMemory}
 use Rattle.irp_transcript_writer.specs.Json.{line_text}
 use Rattle.irp_transcript_writer.specs.Lines.{entry_json, header_json, lines, text_of, word_json}
 use Rattle.irp_fast_reader.proofs.Entries.{entry_back, entry_stands}
@@ -67,16 +69,20 @@ abbrev made : Header → List Entry → List WordLine → TranscriptValue
 made header entries words = record { header = Some header; entries = entries; words = words }
 
 entry_taken : (header : Header) (before : List Entry) (entry : Entry) → length before < most_entries → EntryUnder header entry
-    → with_line header.form header.seats (made header before []) (entry_json entry) ≡ Some (made header (before ++ entry ∷ []) [])
-unfolding with_line with_entry
-entry_taken header before entry few h =
-    rw (entry_back entry h.fits, lt-ltb (length before) most_entries few, lt-ltb entry.seat header.seats h.seated, h.of_form)
+    → IsNext (made header before []) (entry_json entry) (made header (before ++ entry ∷ []) [])
+entry_taken header before entry few h = (
+  EntryLine entry,
+  (refl, entry_back entry h.fits, rw (lt-ltb (length before) most_entries few, lt-ltb entry.seat header.seats h.seated) h.of_form),
+  refl,
+)
 
 word_taken : (header : Header) (entries : List Entry) (before : List WordLine) (line : WordLine) → WordUnder header line
-    → with_line header.form header.seats (made header entries before) (word_json line) ≡ Some (made header entries (before ++ line ∷ []))
-unfolding with_line with_word
-word_taken header entries before line h =
-    rw (no_entry line, word_back line h.fits, lt-ltb line.seat header.seats h.seated, h.hands, h.of_form)
+    → IsNext (made header entries before) (word_json line) (made header entries (before ++ line ∷ []))
+word_taken header entries before line h = (
+  WordLineOf line,
+  (no_entry line, word_back line h.fits, rw (lt-ltb line.seat header.seats h.seated, h.hands) h.of_form),
+  refl,
+)
 
 -- ---- all lines
 
@@ -116,7 +122,7 @@ under_taken : (header : Header) (entries : List Entry) (words : List WordLine) �
     → TakesAll no_lines (map compact_text (lines (made header entries words))) (made header entries words)
 under_taken header entries words accepted fits = (
   made header [] [],
-  (header_json header, line_is (header_json header) (header_stands 123 header accepted) fits.short, (header, header_back header accepted, accepted, refl)),
+  (header_json header, line_is (header_json header) (header_stands 123 header accepted) fits.short, (HeaderLine header, (header_back header accepted, accepted), refl)),
   entries_taken header [] entries words (omega (arith, fits.few)) fits.entries fits.words,
 )
 
@@ -131,16 +137,29 @@ under_stand header entries words accepted fits = (
 
 -- ---- one answer
 
-next_same : (known : Option Header) (before after other : TranscriptValue) (form : Data) → IsNextUnder known before form after
-    → IsNextUnder known before form other → after ≡ other
-next_same None before after other form (header, is, accepted, made_is) (second, second_is, second_accepted, second_made) =
-    made_is ∙ ap (λ (given : Header). record before { header = Some given }) (same_Some header second (sym is ∙ second_is)) ∙ sym second_made
-next_same (Some header) before after other form one two = same_Some after other (sym one ∙ two)
+-- a value is one line
+says_same : (seen : Option Seen) (form : Data) (line other : Line) → Says seen form line → Says seen form other → line ≡ other
+says_same None form (HeaderLine header) (HeaderLine other) one two = ap HeaderLine (same_Some header other (sym one.0 ∙ two.0))
+says_same None form (HeaderLine header) (EntryLine other) one two = absurd two
+says_same None form (HeaderLine header) (WordLineOf other) one two = absurd two
+says_same None form (EntryLine entry) other one two = absurd one
+says_same None form (WordLineOf word) other one two = absurd one
+says_same (Some seen) form (HeaderLine header) other one two = absurd one
+says_same (Some seen) form (EntryLine entry) (HeaderLine other) one two = absurd two
+says_same (Some seen) form (EntryLine entry) (EntryLine other) one two = ap EntryLine (same_Some entry other (sym one.1 ∙ two.1))
+says_same (Some seen) form (EntryLine entry) (WordLineOf other) one two = absurd (true≢false (sym one.0 ∙ two.0))
+says_same (Some seen) form (WordLineOf word) (HeaderLine other) one two = absurd two
+says_same (Some seen) form (WordLineOf word) (EntryLine other) one two = absurd (true≢false (sym two.0 ∙ one.0))
+says_same (Some seen) form (WordLineOf word) (WordLineOf other) one two = ap WordLineOf (same_Some word other (sym one.1 ∙ two.1))
+
+next_same : (before after other : TranscriptValue) (form : Data) → IsNext before form after → IsNext before form other → after ≡ other
+next_same before after other form one two =
+    one.2 ∙ ap (with_line before) (says_same (seen_of before) form one.0 two.0 one.1 two.1) ∙ sym two.2
 
 takes_same : (before after other : TranscriptValue) (line : List ℕ) → Takes before line after → Takes before line other → after ≡ other
 takes_same before after other line (form, is, next) (second_form, second_is, second_next) =
     let same : second_form ≡ form = same_Some second_form form (sym second_is.2 ∙ is.2) in
-    next_same before.header before after other form next (subst (λ (given : Data). IsNext before given other) same second_next)
+    next_same before after other form next (subst (λ (given : Data). IsNext before given other) same second_next)
 
 all_same : (before after other : TranscriptValue) (texts : List (List ℕ)) → TakesAll before texts after → TakesAll before texts other → after ≡ other
 all_same before after other [] one two = sym one ∙ two
@@ -184,7 +203,7 @@ written transcript is fits =
 judged : (answer : Result TranscriptValue ReadFault) (after : TranscriptValue) (texts : List (List ℕ)) → TakesAll no_lines texts after
     → ReadsFrom no_lines 0 answer (texts, []) → IsReadAgain after answer
 judged (Ok again) after texts taken reads = all_same no_lines again after texts reads.1 taken
-judged (Err (Line line)) after texts taken reads = never_refused reads.0 no_lines after texts taken reads.2
+judged (Err (LineFault line)) after texts taken reads = never_refused reads.0 no_lines after texts taken reads.2
 judged (Err NoMemory) after texts taken reads = tt
 
 -- and as nothing else

@@ -1,25 +1,17 @@
 -- What a reader keeps of a text that it is fed block after block, and what it gives.
-use Rattle.std.specs.Prelude.{⊤, ℕ, ◌≡◌, ◌==◌, ◌≤◌, ◌<◌, ◌+◌, ◌&&◌, nat_lt, List, [], ◌∷◌, ◌++◌, length, take, Bool, true, false, is_some, Option, Some, None, Result, Ok, Err}
-use Rattle.std.specs.Option.{option_map}
+use Rattle.std.specs.Prelude.{⊤, ℕ, ◌≡◌, ◌≤◌, ◌<◌, ◌+◌, List, [], ◌++◌, length, take, true, is_some, Option, Some, None, Result, Ok, Err}
 use Rattle.irp_forms.specs.declared.unread.Unread.{Unread}
 use Rattle.irp_forms.specs.declared.unread.Unread.TheVariants as unread
 use Rattle.irp_transcript.specs.Transcripts.{TranscriptValue, IsTranscript, no_lines}
-use Rattle.irp_transcript.specs.declared.header.Header.{Header}
-use Rattle.irp_transcript_reader.specs.Reading.{ReadsFrom, Refuses, Takes, TakesAll, cut, most_bytes, most_entries, so_far}
+use Rattle.irp_transcript_reader.specs.Reading.{ReadsFrom, Refuses, Takes, TakesAll, cut, most_bytes, most_entries, seen_of, with_line}
 use Rattle.irp_transcript_reader.specs.declared.read_fault.ReadFault.{ReadFault}
 use Rattle.irp_transcript_reader.specs.declared.read_fault.ReadFault.TheVariants as faults
-use Rattle.irp_fast_reader.specs.declared.line.Line.{Line}
-use Rattle.irp_fast_reader.specs.declared.line.Line.TheVariants.{Header as HeaderLine, Entry as EntryLine, Word as WordLine}
+use Rattle.irp_transcript_reader.specs.declared.line.Line.{Line}
+use Rattle.irp_transcript_reader.specs.declared.line.Line.TheVariants.{Header as HeaderLine, Entry as EntryLine, Word as WordLine}
 use Rattle.irp_fast_reader.specs.declared.line_reader.LineReader.{LineReader}
 use Rattle.irp_fast_reader.specs.declared.reader.Reader.{Reader}
 
 -- ---- lines
-
--- the transcript with one line more
-abbrev pub with_line : TranscriptValue → Line → TranscriptValue
-with_line before (HeaderLine header) = record before { header = Some header }
-with_line before (EntryLine entry) = record before { entries = before.entries ++ entry ∷ [] }
-with_line before (WordLine word) = record before { words = before.words ++ word ∷ [] }
 
 -- a header is the first line, and no other; no entry stands behind a word line
 abbrev pub IsInPlace : TranscriptValue → Line → Type 0
@@ -27,21 +19,11 @@ IsInPlace before (HeaderLine header) = before ≡ no_lines
 IsInPlace before (EntryLine entry) = (is_some before.header ≡ true) × (before.words ≡ [])
 IsInPlace before (WordLine word) = is_some before.header ≡ true
 
--- a header without its lists
-abbrev pub bare_of : Header → Header
-bare_of header = record header { cancels = []; dispatches = []; drivers = [] }
-
--- a transcript without its lines, and without the lists of its header
-abbrev pub alone_of : TranscriptValue → TranscriptValue
-alone_of before = record { header = option_map bare_of before.header; entries = []; words = [] }
-
 -- a reader of lines was given those of this transcript
 pub record HasTaken (reader : LineReader) (before : TranscriptValue) : Type 0 where
   pub one : IsTranscript before
-  pub alone : so_far reader.alone ≡ alone_of before
-  pub entries : reader.entries ≡ length before.entries
+  pub seen : reader.seen ≡ seen_of before
   pub few : length before.entries ≤ most_entries
-  pub before_words : reader.before_words ≡ (length before.words == 0)
 
 -- what it gives for the next line, behind this transcript: what the line is, unless it is refused, or memory ran out
 abbrev pub Given : Result Line Unread → LineReader → TranscriptValue → List ℕ → Type 0
@@ -50,20 +32,6 @@ Given (Ok given) reader before line =
     × HasTaken reader (with_line before given)
 Given (Err unread.Form) reader before line = Refuses before line
 Given (Err unread.NoMemory) reader before line = ⊤
-
--- another entry may stand there: before the word lines, and where there are not too many
-abbrev pub has_room : LineReader → Bool
-has_room reader = reader.before_words && nat_lt reader.entries most_entries
-
--- with one entry more
-abbrev pub with_one_more : LineReader → LineReader
-with_one_more reader = record reader { entries = reader.entries + 1 }
-
--- whether an entry was counted, by whether one may stand
-abbrev pub Counts : Result (Unit {0}) Unread → Bool → Type 0
-Counts (Ok done) room = room ≡ true
-Counts (Err unread.Form) room = room ≡ false
-Counts (Err unread.NoMemory) room = ⊥
 
 -- ---- blocks
 

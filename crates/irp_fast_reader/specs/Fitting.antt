@@ -9,7 +9,7 @@ use Rattle.irp_transcript.specs.declared.header.Header.{Header}
 use Rattle.irp_transcript_reader.specs.Reading.{ReadsFrom, cut, most_entries}
 use Rattle.irp_transcript_writer.specs.Json.{line_text}
 use Rattle.irp_transcript_writer.specs.Lines.{entry_json, header_json, lines, text_of, word_json}
-use Rattle.irp_transcript_writer.specs.Out.{risen}
+use Rattle.irp_streams.specs.Out.{risen}
 use Rattle.irp_fast_reader.specs.Fits.{EntryUnder, Fits, IsShort, LineFits, WordUnder}
 use Rattle.irp_fast_reader.specs.declared.unfit.{Unfit.Unfit, Unwritten.Unwritten}
 use Rattle.irp_fast_reader.specs.declared.unfit.Unfit.TheVariants as part

@@ -9,13 +9,13 @@
 //! entry (`entry_is_read`). Nothing is promised of a guess. Any other line is read as `irp_transcript_reader` does.
 #![tactic(auto)]
 
+mod by_guess;
 mod fits;
 mod fitting;
 mod guess;
 mod guessed_calls;
 mod guessed_parts;
 mod guessed_questions;
-mod line;
 mod line_reader;
 mod read;
 mod reader;
@@ -24,8 +24,7 @@ mod scan;
 mod unfit;
 mod write;
 
-pub use irp_transcript_reader::ReadFault;
-pub use line::Line;
+pub use irp_transcript_reader::{Line, ReadFault};
 pub use read::read_transcript;
 pub use reader::Reader;
 pub use round_trip::{read_again, written_is_read};

@@ -1,105 +1,38 @@
 //! Transcripts from bytes. Source: this project's own format (docs/FORMATS.md).
 
-ghost use Rattle.std.specs.Prelude.{IfSome, IsTrue};
+ghost use Rattle.std.specs.Prelude.{◌≡◌, [], MatchOption};
 ghost use Rattle.irp_transcript.specs.Transcripts.{no_lines};
-ghost use Rattle.irp_fast_reader.specs.Fits.{IsWritten};
-ghost use Rattle.irp_transcript_reader.specs.Reading.{IsEntryLine, ReadsFrom, cut};
+ghost use Rattle.irp_transcript_reader.specs.Reading.{ReadsFrom, Splits, TakesLine, cut, so_far};
 
-use crate::fits::fits;
-use crate::guess::guess_entry;
-use crate::round_trip::entry_is_read;
+use crate::by_guess::ByGuess;
 use irp_forms::Unread;
 use irp_transcript::Transcript;
-use irp_transcript_reader::{MOST_BYTES, ReadFault, Reading, TakeLine, read_lines};
-use irp_transcript_writer::Written;
-use irp_types::{Asked, Entry};
+use irp_transcript_reader::{ReadFault, Reading};
+use memchr::memchr;
 use std::alloc::Global;
 
-/// How many lines are guessed in vain before no more is guessed: a text of another hand is read by its values alone.
-const MOST_MISSES: u32 = 16;
-
-/// Whether the line is read as the entry that it is written of: the entry fits, and the line isn't too long.
-#[tactic(auto, using(crate::proofs::Lines::known))]
-fn is_read(line: &[u8], entry: &Entry) -> bool
-    requires { IsWritten line.now entry.now }
-    ensures { IsTrue result → IsEntryLine line.now entry.now }
+/// The first line and what follows its newline, or none where there is no newline.
+fn split_line(bytes: &[u8]) -> Option<(&[u8], &[u8])>
+    ensures { MatchOption result (cut bytes.now ≡ ([], bytes.now))
+        (λ parts. Splits bytes.now parts.0.now parts.1.now) }
 {
-    entry_is_read();
-    line.len() <= MOST_BYTES && fits(entry)
-}
-
-/// Each line is taken by a guess where that is right, and else by its JSON value.
-#[derive(Drop)]
-pub struct ByGuess {
-    /// How many lines were guessed in vain, or not at all.
-    misses: u32,
-    /// The room in which a guess is written.
-    written: Vec<u8>,
-    /// The room in which a guess's questions are gathered.
-    asked: Vec<Asked>,
-}
-
-impl ByGuess {
-    /// With no room yet. It takes no memory.
-    pub fn new(alloc: Global) -> ByGuess {
-        ByGuess {
-            misses: 0,
-            written: Vec::new(alloc),
-            asked: Vec::new(alloc),
-        }
-    }
-
-    /// An entry that this line is written of. None where the guess is wrong, and where memory ran out.
-    fn written_entry(&mut self, alloc: Global, line: &[u8]) -> Option<Entry>
-        ensures { IfSome result (IsWritten line.now) }
-    {
-        let entry = guess_entry(alloc, line, &mut self.asked)?;
-        self.written.clear();
-        entry.write(&mut self.written).ok()?;
-        let written = self.written.as_slice();
-        if written == line { Some(entry) } else { None }
-    }
-
-    /// An entry that this line is written of. None also where no more is guessed.
-    fn guess(&mut self, alloc: Global, line: &[u8]) -> Option<Entry>
-        ensures { IfSome result (IsWritten line.now) }
-    {
-        if self.misses >= MOST_MISSES {
-            return None;
-        }
-        let entry = self.written_entry(alloc, line);
-        if entry.is_none() {
-            self.misses = self.misses.saturating_add(1);
-        }
-        entry
-    }
-
-    /// An entry that the line is read as. None where the guess is wrong, where no more is guessed, and where memory ran
-    /// out.
-    fn known_entry(&mut self, alloc: Global, line: &[u8]) -> Option<Entry>
-        ensures { IfSome result (IsEntryLine line.now) }
-    {
-        let entry = self.guess(alloc, line)?;
-        if is_read(line, &entry) {
-            Some(entry)
-        } else {
-            None
-        }
+    match memchr(b'\n', bytes) {
+        Some(place) => Some((&bytes[..place], &bytes[place + 1..])),
+        None => None,
     }
 }
 
-impl TakeLine for ByGuess {
-    fn take_line(
-        &mut self,
-        alloc: Global,
-        reading: &mut Reading,
-        line: &[u8],
-    ) -> Result<(), Unread> {
-        match self.known_entry(alloc, line) {
-            Some(entry) => reading.take_known(alloc, entry, line),
-            None => reading.take_line(alloc, line),
-        }
-    }
+/// Takes the next line, without its newline. After an error the reading is of no use.
+fn take_line(
+    alloc: Global,
+    guesses: &mut ByGuess,
+    reading: &mut Reading,
+    line: &[u8],
+) -> Result<(), Unread>
+    ensures { TakesLine result (so_far reading.old) line.now (so_far reading.new) }
+{
+    let given = guesses.read_line(alloc, reading.seen(), line)?;
+    reading.put(given)
 }
 
 /// Reads a transcript: the header's line, then a line for each entry, then the word lines, each in order; no lines are
@@ -108,10 +41,30 @@ impl TakeLine for ByGuess {
 ///
 /// # Errors
 ///
-/// `ReadFault::Line` with the number, from 1, of the first line that is refused (`irp_transcript_reader::read_lines`
-/// tells which are); `ReadFault::NoMemory` where memory ran out at a line behind lines that are all taken.
+/// `ReadFault::Line` with the number, from 1, of the first line that is refused. A line is refused where it is longer
+/// than 65,536 bytes without its newline, isn't JSON, has none of the lines' forms (in form 1, also where it has one
+/// that only form 2 has), is a header that the formats don't accept (`Header::is_accepted`), names a seat that the
+/// header doesn't count, is an entry after a word line or past 1,000,000 entries, or ends without a newline.
+/// `ReadFault::NoMemory` where memory ran out at a line behind lines that are all taken: never before the first line,
+/// for a line that is empty or too long, or for one without its newline.
 pub fn read_transcript(alloc: Global, bytes: &[u8]) -> Result<Transcript, ReadFault>
     ensures { ReadsFrom no_lines 0 result (cut bytes.now) }
 {
-    read_lines(alloc, bytes, &mut ByGuess::new(alloc))
+    let mut guesses = ByGuess::new(alloc);
+    let mut reading = Reading::new(alloc);
+    let mut rest = bytes;
+    let mut lines = 0u64;
+    while !rest.is_empty() {
+        let Some((line, more)) = split_line(rest) else {
+            return Err(ReadFault::Line(lines + 1));
+        };
+        match take_line(alloc, &mut guesses, &mut reading, line) {
+            Ok(()) => {}
+            Err(Unread::Form) => return Err(ReadFault::Line(lines + 1)),
+            Err(Unread::NoMemory) => return Err(ReadFault::NoMemory),
+        }
+        rest = more;
+        lines += 1;
+    }
+    Ok(reading.into_transcript(alloc))
 }

@@ -20,10 +20,9 @@ ghost use Rattle.irp_transcript.specs.Transcripts.{TranscriptValue, no_lines};
 ghost use Rattle.irp_transcript_reader.specs.Reading.{ReadsFrom, cut};
 ghost use Rattle.irp_fast_reader.specs.Fed.{Given, Gives, HasRead, HasTaken, IsNextLine, Keeps, ended, fault_at};
 
-use crate::line::Line;
 use crate::line_reader::LineReader;
 use irp_forms::Unread;
-use irp_transcript_reader::{MOST_BYTES, ReadFault};
+use irp_transcript_reader::{Line, MOST_BYTES, ReadFault};
 use memchr::memchr;
 use std::alloc::Global;
 
@@ -105,7 +104,7 @@ impl Reader {
     /// # Errors
     ///
     /// `ReadFault::Line` with the number, from 1, of the next line, where that is refused, whatever follows the block
-    /// (`irp_transcript_reader::read_lines` tells which are); `ReadFault::NoMemory` where memory ran out, behind lines
+    /// (`read_transcript` tells which are); `ReadFault::NoMemory` where memory ran out, behind lines
     /// that are all taken. After an error the reader is of no use.
     pub fn next(&mut self, alloc: Global, block: &[u8]) -> Result<Option<(Line, usize)>, ReadFault>
         ensures within { IfOk result (λ read.

@@ -6,9 +6,9 @@ ghost use Rattle.irp_fast_reader.specs.Fitting.{Counts, IsReadBack, PutsLine, Pu
 use crate::fitting::Fitting;
 use crate::round_trip::written_is_read;
 use crate::unfit::{Unfit, Unwritten};
+use irp_streams::{Out, put_all};
 use irp_transcript::{Header, Transcript, WordLine};
 use irp_transcript_reader::MOST_BYTES;
-use irp_transcript_writer::{Out, put_all};
 use irp_types::Entry;
 use irp_types::limits::MOST_ENTRIES;
 use std::alloc::Global;

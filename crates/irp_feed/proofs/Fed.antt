@@ -5,12 +5,12 @@ use Rattle.std.proofs.lemmas.Option.{none-some}
 use Rattle.std.specs.Io.KnownBytes.{Consumes, IsAtEnd}
 use Rattle.irp_transcript.specs.Transcripts.{TranscriptValue, no_lines}
 use Rattle.irp_transcript.specs.declared.header.Header.{Header}
-use Rattle.irp_transcript_reader.specs.Reading.{ReadsFrom, TakesAll, cut}
+use Rattle.irp_transcript_reader.specs.Reading.{ReadsFrom, TakesAll, cut, with_line}
 use Rattle.irp_transcript_reader.specs.declared.read_fault.ReadFault.{ReadFault}
 use Rattle.irp_transcript_reader.specs.declared.read_fault.ReadFault.TheVariants.{Line as LineFault, NoMemory as FaultMemory}
-use Rattle.irp_fast_reader.specs.Fed.{Gives, IsInPlace, IsNextLine, with_line}
-use Rattle.irp_fast_reader.specs.declared.line.Line.{Line}
-use Rattle.irp_fast_reader.specs.declared.line.Line.TheVariants.{Header as HeaderLine, Entry as EntryLine, Word as WordLine}
+use Rattle.irp_fast_reader.specs.Fed.{Gives, IsInPlace, IsNextLine}
+use Rattle.irp_transcript_reader.specs.declared.line.Line.{Line}
+use Rattle.irp_transcript_reader.specs.declared.line.Line.TheVariants.{Header as HeaderLine, Entry as EntryLine, Word as WordLine}
 use Rattle.irp_fast_reader.specs.declared.reader.Reader.{Reader}
 use Rattle.irp_fast_reader.proofs.Blocks.{Cut, cut_onward}
 use Rattle.irp_fast_reader.proofs.Whole.{refused_last}
@@ -84,14 +84,6 @@ is_input old now left text so_far end = record {
   took = so_far.took;
 }
 
--- what was taken isn't too much, also where the next block wasn't had
-pub takes_so_far : (old now : Bytes) (left : ℕ) (text : List ℕ) → IsSoFar old now left text → TakesAtMost most_taken old now
-takes_so_far old now left text so_far = (text, omega (arith, so_far.count), so_far.took)
-
-pub takes_more : (old now next : Bytes) (left : ℕ) (text : List ℕ) → IsSoFar old now left text → TakesAtMost (left + 1) now next → TakesAtMost most_taken old next
-takes_more old now next left text so_far more =
-    (text ++ more.0, omega (arith, length-append text more.0, so_far.count, more.1), reads_on text more.0 old now next so_far.took more.2)
-
 -- ---- first lines
 
 -- all lines of a text
@@ -140,11 +132,7 @@ refused_of (LineFault line) text reads = reads
 refused_of FaultMemory text reads = tt
 
 -- the input is at its end, and its text is refused
-pub ended_fails : (line : Option ℕ) (old now : Bytes) (left : ℕ) (text : List ℕ) → IsSoFar old now left text → IsAtEnd now → IsTextOfNone text line → Fails old now line
-ended_fails (Some line) old now left text so_far end reads = ((text, is_input old now left text so_far end, reads), takes_so_far old now left text so_far)
-ended_fails None old now left text so_far end reads = (tt, takes_so_far old now left text so_far)
-
-pub none_of_end : (line : Option ℕ) (old now : Bytes) (text : List ℕ) → IsInput old now text → IsTextOfNone text line → IsNoneOf old now text line
+none_of_end : (line : Option ℕ) (old now : Bytes) (text : List ℕ) → IsInput old now text → IsTextOfNone text line → IsNoneOf old now text line
 none_of_end (Some line) old now text input none = (input, none)
 none_of_end None old now text input none = tt
 
@@ -178,6 +166,17 @@ refused_fails line has_newline old now text all hopeless = record {
 pub input_fails : (failed : InputFailed) (old now : Bytes) (text : List ℕ) → Drains (Err failed) old now text → FailsBehind text old now None
 input_fails failed old now text part = record { more = part.0; none = tt; few = part.1; took = part.2 }
 
+-- there is no next block, and the text isn't read
+pub next_ended : (line : Option ℕ) (old now : Bytes) (left : ℕ) (text : List ℕ) → IsSoFar old now left text → IsAtEnd now → IsTextOfNone text line → FailsBehind text old now line
+next_ended line old now left text so_far end none =
+    let whole : text ++ [] ≡ text = append-nil text in
+    record {
+      more = [];
+      none = subst (λ (given : List ℕ). IsNoneOf old now given line) (sym whole) (none_of_end line old now text (is_input old now left text so_far end) none);
+      few = subst (λ (given : List ℕ). length given ≤ most_taken) (sym whole) (omega (arith, so_far.count));
+      took = subst (Consumes old now) (sym whole) so_far.took;
+    }
+
 -- whatever its text begins with
 holds_none : (line : Option ℕ) (old now : Bytes) (text : List ℕ) → IsNoneOf old now text line → HoldsNone old now line
 holds_none (Some line) old now text none = (text, none.0, none.1)
@@ -191,26 +190,17 @@ fails_of line text old now behind = (holds_none line old now (text ++ behind.mor
 pub fails_at_start : (line : Option ℕ) (old now : Bytes) → StartsNone old now line → Fails old now line
 fails_at_start line old now starts = (holds_none line old now starts.text starts.none, (starts.text, starts.few, starts.took))
 
-say_none : (text : List ℕ) → SayFirst 0 text no_lines
-say_none text = (omega arith, refl)
-
--- the input couldn't be taken
-pub starts_unhad : (old now next : Bytes) (left : ℕ) (text : List ℕ) → IsSoFar old now left text → TakesAtMost (left + 1) now next → StartsNone old next None
-starts_unhad old now next left text so_far more = (
-    let rest = takes_more old now next left text so_far more in
-    record { text = rest.0; none = tt; few = rest.1; took = rest.2; count = 0; all = tt; say = say_none rest.0 })
-
--- the text in it has no newline
-pub starts_ended : (line : Option ℕ) (old now : Bytes) (left : ℕ) (text : List ℕ) → IsSoFar old now left text → IsAtEnd now → TakesAll no_lines (cut text).0 no_lines
-    → IsTextOfNone text line → AreAllBefore line (length (cut text).0) → StartsNone old now line
-starts_ended line old now left text so_far end taken none all = record {
-  text = text;
-  none = none_of_end line old now text (is_input old now left text so_far end) none;
-  few = omega (arith, so_far.count);
-  took = so_far.took;
+-- the lines of the text say nothing, and it isn't read on
+pub starts_unread : (line : Option ℕ) (text : List ℕ) (old now : Bytes) → TakesAll no_lines (cut text).0 no_lines → AreAllBefore line (length (cut text).0)
+    → FailsBehind text old now line → StartsNone old now line
+starts_unread line text old now taken all behind = record {
+  text = text ++ behind.more;
+  none = behind.none;
+  few = behind.few;
+  took = behind.took;
   count = length (cut text).0;
   all = all;
-  say = say_all text no_lines taken;
+  say = say_more (length (cut text).0) text behind.more no_lines (say_all text no_lines taken);
 }
 
 -- the first line is refused

@@ -1,7 +1,6 @@
 -- Bytes that were read one piece after another.
-use Rattle.std.proofs.Common.{ℕ, List, [], ◌++◌, Option, Some, None, refl, sym, ap, ◌∙◌, append_assoc, arith}
+use Rattle.std.proofs.Common.{ℕ, List, ◌++◌, Option, Some, None, sym, ap, ◌∙◌, append_assoc}
 use Rattle.std.specs.Io.KnownBytes.{Consumes}
-use Rattle.irp_feed.specs.Input.{TakesAtMost}
 
 pub reads_on : (t u : List ℕ) (old mid new : Option (List ℕ)) → Consumes old mid t → Consumes mid new u → Consumes old new (t ++ u)
 reads_on t u None mid new h k = tt

@@ -1,21 +1,20 @@
 -- What takes the lines of a block.
-use Rattle.std.proofs.Common.{◌≡◌, ℕ, ◌+◌, ◌<◌, ◌≤◌, ◌^◌, List, [], ◌∷◌, ◌++◌, length, take, drop, Option, Ok, Err, refl, sym, subst, ap, ◌∙◌, append_assoc, append-nil, arith, length-append}
+use Rattle.std.proofs.Common.{◌≡◌, ℕ, ◌+◌, ◌<◌, ◌≤◌, ◌^◌, List, [], ◌∷◌, ◌++◌, length, take, drop, Option, Err, refl, sym, subst, ap, ◌∙◌, append_assoc, append-nil, arith, length-append}
 use Rattle.std.proofs.lemmas.List.{length-take-le, take-append-drop}
-use Rattle.std.specs.Io.KnownBytes.{IsAtEnd}
 use Rattle.irp_transcript.specs.Transcripts.{TranscriptValue}
-use Rattle.irp_transcript_reader.specs.Reading.{cut}
+use Rattle.irp_transcript_reader.specs.Reading.{cut, with_line}
 use Rattle.irp_transcript_reader.specs.declared.read_fault.ReadFault.{ReadFault}
 use Rattle.irp_transcript_reader.specs.declared.read_fault.ReadFault.TheVariants.{Line as LineFault, NoMemory as FaultMemory}
-use Rattle.irp_fast_reader.specs.Fed.{Gives, HasRead, IsInPlace, IsNextLine, with_line}
-use Rattle.irp_fast_reader.specs.declared.line.Line.{Line}
-use Rattle.irp_fast_reader.specs.declared.line.Line.TheVariants.{Header as HeaderLine, Entry as EntryLine, Word as WordLine}
+use Rattle.irp_fast_reader.specs.Fed.{Gives, HasRead, IsNextLine}
+use Rattle.irp_transcript_reader.specs.declared.line.Line.{Line}
+use Rattle.irp_transcript_reader.specs.declared.line.Line.TheVariants.{Header as HeaderLine, Entry as EntryLine, Word as WordLine}
 use Rattle.irp_fast_reader.specs.declared.reader.Reader.{Reader}
-use Rattle.irp_feed.specs.Input.{Bytes, IsTextOf, most_bytes}
-use Rattle.irp_feed.specs.Feeding.{AreTaken, AreTakenBefore, FeedsBlock, FeedsRest, IsHopeless, IsSoFar, line_in, refused_line, unfed_of}
+use Rattle.irp_feed.specs.Input.{most_bytes}
+use Rattle.irp_feed.specs.Feeding.{AreTaken, AreTakenBefore, FeedsBlock, IsHopeless, line_in, refused_line, unfed_of}
 use Rattle.irp_feed.specs.declared.unfed.RefusedLine.{RefusedLine}
 use Rattle.irp_feed.specs.declared.unfed.Unfed.{Unfed}
 use Rattle.irp_feed.specs.declared.unfed.Unfed.TheVariants.{Input, Refused, NoMemory, NotTaken}
-use Rattle.irp_feed.proofs.Fed.{all_before, hopeless_of, is_input, joined, say_all, say_more}
+use Rattle.irp_feed.proofs.Fed.{all_before, hopeless_of, joined, say_all, say_more}
 
 -- a line adds at most one word line
 words_more : (before : TranscriptValue) (line : Line) → length (with_line before line).words ≤ length before.words + 1
@@ -120,8 +119,3 @@ module _ {S F : Type 0} (taken : S → F → TranscriptValue → Type 0) where
   pub starts_taken : (reader : Reader) (sink : S) (fixed : F) (text : List ℕ) (header : TranscriptValue) → header.words ≡ [] → HasRead reader text header → taken sink fixed header
       → AreTaken taken reader sink fixed text
   starts_taken reader sink fixed text header none read are = record { transcript = header; read = read; few = (let size = ap length none in omega (arith, size)); are = are }
-
-  -- at the end of the input
-  pub ends_taken : (reader : Reader) (sink : S) (fixed : F) (old now : Bytes) (left : ℕ) (text : List ℕ) → IsSoFar old now left text → IsAtEnd now
-      → (so_far : AreTaken taken reader sink fixed text) → IsTextOf text so_far.transcript → FeedsRest taken (Ok tt) old now sink fixed
-  ends_taken reader sink fixed old now left text so_far end given is = (given.transcript, (text, is_input old now left text so_far end, is), given.are)

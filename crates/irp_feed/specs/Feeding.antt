@@ -3,18 +3,18 @@ use Rattle.std.specs.Prelude.{ℕ, ◌≡◌, ◌+◌, ◌-◌, ◌≤◌, List,
 use Rattle.std.specs.Io.KnownBytes.{Consumes}
 use Rattle.irp_transcript.specs.Headers.{IsHeader}
 use Rattle.irp_transcript.specs.Transcripts.{TranscriptValue, no_lines}
-use Rattle.irp_transcript_reader.specs.Reading.{TakesAll, cut}
+use Rattle.irp_transcript_reader.specs.Reading.{TakesAll, cut, with_line}
 use Rattle.irp_transcript_reader.specs.declared.read_fault.ReadFault.{ReadFault}
 use Rattle.irp_transcript_reader.specs.declared.read_fault.ReadFault.TheVariants as faults
-use Rattle.irp_fast_reader.specs.Fed.{HasRead, with_line}
-use Rattle.irp_fast_reader.specs.declared.line.Line.TheVariants.{Header as HeaderLine}
+use Rattle.irp_fast_reader.specs.Fed.{HasRead}
+use Rattle.irp_transcript_reader.specs.declared.line.Line.TheVariants.{Header as HeaderLine}
 use Rattle.irp_fast_reader.specs.declared.reader.Reader.{Reader}
-use Rattle.irp_feed.specs.Input.{Bytes, Holds, IsInput, IsRefused, TakesAtMost, most_bytes, most_taken}
+use Rattle.irp_feed.specs.Input.{Bytes, Holds, IsInput, IsRefused, IsTextOf, TakesAtMost, most_bytes, most_taken}
 use Rattle.irp_feed.specs.declared.header.Start.{Start}
 use Rattle.irp_feed.specs.declared.input.InputFailed.{InputFailed}
 use Rattle.irp_feed.specs.declared.unfed.RefusedLine.{RefusedLine}
 use Rattle.irp_feed.specs.declared.unfed.Unfed.{Unfed}
-use Rattle.irp_feed.specs.declared.unfed.Unfed.TheVariants.{Refused, NoMemory, NotTaken}
+use Rattle.irp_feed.specs.declared.unfed.Unfed.TheVariants.{Input as InputFails, Refused, NoMemory, NotTaken}
 
 -- ---- lines
 
@@ -109,6 +109,15 @@ pub record Starts (old new : Bytes) (start : Start) (reader : Reader) (buffer : 
   pub within : start.to ≤ length buffer
   pub so_far : IsSoFar old new start.left (text ++ piece_of buffer start.from start.to)
 
+-- what becomes of the input behind this text, whose whole lines make this transcript: its next block was taken; or it is
+-- at its end, and the text is the transcript's; or why the text isn't read on
+abbrev pub NextBlock : Result (Option ℕ) Unfed → Bytes → Bytes → ℕ → List ℕ → List ℕ → TranscriptValue → Type 0
+NextBlock (Ok (Some count)) old now left buffer text before =
+    IsSoFar old now (left - count) (text ++ take count buffer)
+NextBlock (Ok None) old now left buffer text before = IsInput old now text × IsTextOf text before
+NextBlock (Err unfed) old now left buffer text before =
+    FailsBehind text old now (refused_line unfed) × AreAllBefore (refused_line unfed) (length (cut text).0)
+
 -- what becomes of the input up to its header, where it may have no lines
 abbrev pub IsStart : Bytes → Bytes → Result (Option Start) Unfed → Reader → List ℕ → Type 0
 IsStart old new (Ok None) reader buffer = Holds old new no_lines
@@ -134,9 +143,11 @@ module _ {S F : Type 0} (taken : S → F → TranscriptValue → Type 0) where
     pub say : SayFirst count text transcript
     pub are : taken sink fixed transcript
 
-  -- what becomes of one more block; where memory ran out for what takes the lines, nothing is known of that
+  -- what becomes of one more block: no input is read there; where memory ran out for what takes the lines, nothing is
+  -- known of that
   abbrev pub FeedsBlock : Result (Unit {0}) Unfed → Reader → S → F → List ℕ → Type 0
   FeedsBlock (Ok done) reader sink fixed text = AreTaken reader sink fixed text
+  FeedsBlock (Err InputFails) reader sink fixed text = ⊥
   FeedsBlock (Err NotTaken) reader sink fixed text = Unit {0}
   FeedsBlock (Err unfed) reader sink fixed text =
       IsHopeless (refused_line unfed) text × AreTakenBefore (refused_line unfed) sink fixed text

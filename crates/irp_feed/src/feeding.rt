@@ -1,11 +1,12 @@
 //! The lines behind the header of a text.
 
-ghost use Rattle.std.specs.Prelude.{ℕ, ◌<◌, ◌≤◌, ◌+◌, List, ◌++◌, length};
-ghost use Rattle.irp_fast_reader.specs.declared.line.Line.TheVariants.{Header as HeaderLine};
-ghost use Rattle.irp_fast_reader.specs.Fed.{with_line};
-ghost use Rattle.irp_transcript.specs.Transcripts.{no_lines};
+ghost use Rattle.std.specs.Prelude.{ℕ, ◌≡◌, ◌<◌, ◌≤◌, ◌+◌, List, ◌++◌, length, IfOk, IfSome};
+ghost use Rattle.irp_transcript_reader.specs.declared.line.Line.TheVariants.{Header as HeaderLine};
+ghost use Rattle.irp_transcript_reader.specs.Reading.{with_line};
+ghost use Rattle.irp_fast_reader.specs.Fed.{HasRead};
+ghost use Rattle.irp_transcript.specs.Transcripts.{TranscriptValue, no_lines};
 ghost use Rattle.irp_feed.specs.Input.{Bytes, most_bytes};
-ghost use Rattle.irp_feed.specs.Feeding.{AreAllBefore, AreTaken, FailsBehind, FeedsBlock, FeedsRest, IsHopeless, IsSoFar, Starts, refused_line};
+ghost use Rattle.irp_feed.specs.Feeding.{AreAllBefore, AreTaken, FailsBehind, FeedsBlock, FeedsRest, IsHopeless, IsSoFar, NextBlock, Starts, refused_line};
 
 use crate::header::Start;
 use crate::input::{drain, take_block};
@@ -35,6 +36,37 @@ pub fn refuse<R: Read>(input: &mut R, buffer: &mut [u8], left: usize, unfed: Unf
     match drain(input, buffer, left) {
         Ok(has_newline) => unfed.behind(has_newline),
         Err(_) => Unfed::Input,
+    }
+}
+
+/// Takes the next block of an input into the buffer, behind a text of which the reader has read the whole lines, and counts
+/// its bytes. None at the end of the input. `left` is how many bytes the input may still have.
+///
+/// # Errors
+///
+/// `Input` where the input failed, or has more bytes; `Refused` where the text has no newline at its end.
+pub fn next_block<R: Read>(
+    input: &mut R,
+    buffer: &mut [u8],
+    reader: &Reader,
+    left: usize,
+) -> Result<Option<usize>, Unfed>
+    requires few { left ≤ most_bytes }
+    requires room { 0 < length buffer.old }
+    ensures room { length buffer.new ≡ length buffer.old }
+    ensures bound { IfOk result (λ next. IfSome next (λ count.
+        (0 < count) × (count ≤ left) × (count ≤ length buffer.new))) }
+    ensures next { (old : Bytes) (text : List ℕ) (before : TranscriptValue)
+        → IsSoFar old (R.remaining input.old) left text → HasRead reader.now text before
+        → NextBlock result old (R.remaining input.new) left buffer.new text before }
+{
+    match take_block(input, buffer, left) {
+        Ok(0) => match reader.finish() {
+            Ok(()) => Ok(None),
+            Err(fault) => Err(Unfed::of(fault, RefusedLine::NoNewline)),
+        },
+        Ok(count) => Ok(Some(count)),
+        Err(_) => Err(Unfed::Input),
     }
 }
 
@@ -104,16 +136,11 @@ pub fn feed_rest<R: Read, S: LineSink>(
             return Err(refuse(input, buffer, left, unfed));
         }
         from = 0;
-        to = match take_block(input, buffer, left) {
-            Ok(count) => count,
-            Err(_) => return Err(Unfed::Input),
+        to = match next_block(input, buffer, reader, left) {
+            Ok(Some(count)) => count,
+            Ok(None) => return Ok(()),
+            Err(unfed) => return Err(unfed),
         };
-        if to == 0 {
-            return match reader.finish() {
-                Ok(()) => Ok(()),
-                Err(fault) => Err(Unfed::of(fault, RefusedLine::NoNewline)),
-            };
-        }
         left -= to;
     }
 }

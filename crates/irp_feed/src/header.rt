@@ -5,9 +5,9 @@ ghost use Rattle.irp_fast_reader.specs.Fed.{HasRead};
 ghost use Rattle.irp_transcript.specs.Transcripts.{no_lines};
 ghost use Rattle.irp_feed.specs.Feeding.{IsStart};
 
-use crate::feeding::{refuse, refused_next};
-use crate::input::{MOST_BYTES, take_block};
-use crate::unfed::{RefusedLine, Unfed};
+use crate::feeding::{next_block, refuse, refused_next};
+use crate::input::MOST_BYTES;
+use crate::unfed::Unfed;
 use irp_fast_reader::{Line, Reader};
 use irp_transcript::Header;
 use std::alloc::Global;
@@ -47,16 +47,11 @@ pub fn read_header<R: Read>(
 {
     let mut left = MOST_BYTES;
     loop {
-        let to = match take_block(input, buffer, left) {
-            Ok(to) => to,
-            Err(_) => return Err(Unfed::Input),
+        let to = match next_block(input, buffer, reader, left) {
+            Ok(Some(to)) => to,
+            Ok(None) => return Ok(None),
+            Err(unfed) => return Err(unfed),
         };
-        if to == 0 {
-            return match reader.finish() {
-                Ok(()) => Ok(None),
-                Err(fault) => Err(Unfed::of(fault, RefusedLine::NoNewline)),
-            };
-        }
         left -= to;
         let begun = reader.begun().len();
         let read = match reader.next(alloc, &buffer[..to]) {

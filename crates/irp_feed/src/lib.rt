@@ -2,7 +2,7 @@
 //!
 //! [`read_header`] reads the header, and [`feed_rest`] gives each line behind it to a [`LineSink`]. Of the text a block is
 //! kept, and the beginning of a line that ends in the next one. Who does more between two blocks, as to send what a block
-//! gave, calls [`feed_block`], [`take_block`] and [`refuse`] in turn.
+//! gave, calls [`feed_block`], [`next_block`] and [`refuse`] in turn.
 #![tactic(auto)]
 
 mod feeding;
@@ -11,8 +11,8 @@ mod input;
 mod sink;
 mod unfed;
 
-pub use feeding::{feed_block, feed_rest, refuse};
+pub use feeding::{feed_block, feed_rest, next_block, refuse};
 pub use header::{Start, read_header};
-pub use input::{BLOCK, InputFailed, take_block};
+pub use input::BLOCK;
 pub use sink::LineSink;
 pub use unfed::{RefusedLine, Unfed};

@@ -2,7 +2,8 @@
 
 ghost use Rattle.std.specs.Prelude.{◌+◌, ◌<◌, ◌^◌, length, OnOk};
 ghost use Rattle.irp_transcript.specs.Transcripts.{TranscriptValue};
-ghost use Rattle.irp_fast_reader.specs.Fed.{IsInPlace, with_line};
+ghost use Rattle.irp_fast_reader.specs.Fed.{IsInPlace};
+ghost use Rattle.irp_transcript_reader.specs.Reading.{with_line};
 
 use irp_fast_reader::Line;
 use std::alloc::AllocError;

@@ -1,4 +1,3 @@
 pub mod Lists
 pub mod Texts
 pub mod Keys
-pub mod Others

@@ -36,40 +36,28 @@ fn call_keys(name: &str) -> &'static [&'static str]
     }
 }
 
+/// The call with these fields, and those that stand under these keys of the value, where each is there and has its form.
+macro_rules! told {
+    ($value:ident, $call:ident($($given:ident),*) $(, $field:ident: $key:literal)*) => {
+        Some(Call::$call { $($given,)* $($field: under($key, $value)?),* })
+    };
+}
+
 /// The call of this name that the party makes on the packet, whatever keys there are.
 #[tactic(auto, unfolding(crate::specs::Calls::call_by))]
 fn call_by<P: Copy, T: Copy>(name: &str, party: Party, irp: P, value: &Value) -> Option<Call<P, T>>
     ensures { result ≡ spec.call_by name.now party irp (view value.now) }
 {
     match name {
-        "copy_to_next" => Some(Call::CopyToNext { party, irp }),
-        "skip" => Some(Call::Skip { party, irp }),
-        "mark_pending" => Some(Call::MarkPending { party, irp }),
-        "set_next" => Some(Call::SetNext {
-            party,
-            irp,
-            major: under("major", value)?,
-            word: under("word", value)?,
-        }),
-        "set_routine" => Some(Call::SetRoutine {
-            party,
-            irp,
-            setting: under("set", value)?,
-        }),
-        "call_driver" => {
-            let target = under("target", value)?;
-            Some(Call::CallDriver { party, irp, target })
-        }
-        "complete" => Some(Call::Complete {
-            party,
-            irp,
-            status: under("status", value)?,
-            information: under("information", value)?,
-        }),
-        "set_cancel_routine" => {
-            let cancel = under("cancel", value)?;
-            Some(Call::SetCancelRoutine { party, irp, cancel })
-        }
+        "copy_to_next" => told!(value, CopyToNext(party, irp)),
+        "skip" => told!(value, Skip(party, irp)),
+        "mark_pending" => told!(value, MarkPending(party, irp)),
+        "set_next" => told!(value, SetNext(party, irp), major: "major", word: "word"),
+        "set_routine" => told!(value, SetRoutine(party, irp), setting: "set"),
+        "call_driver" => told!(value, CallDriver(party, irp), target: "target"),
+        "complete" =>
+            told!(value, Complete(party, irp), status: "status", information: "information"),
+        "set_cancel_routine" => told!(value, SetCancelRoutine(party, irp), cancel: "cancel"),
         _ => None,
     }
 }
@@ -88,22 +76,16 @@ pub fn call_named<P: Copy, T: Copy>(
 {
     only_keys(value, call_keys(name), beside)?;
     match name {
-        "create_device" => Some(Call::CreateDevice {
-            driver: under("driver", value)?,
-            lock: under("lock", value)?,
-        }),
-        "attach" => Some(Call::Attach {
-            device: under("device", value)?,
-            to: under("to", value)?,
-        }),
-        "detach" => under("lower", value).map(|lower| Call::Detach { lower }),
-        "free" => packet.map(|irp| Call::Free { irp }),
-        "reuse" => Some(Call::Reuse {
-            irp: packet?,
-            status: under("status", value)?,
-        }),
-        "cancel" => packet.map(|irp| Call::Cancel { irp }),
-        "look" => packet.map(|irp| Call::Look { irp }),
+        "create_device" => told!(value, CreateDevice(), driver: "driver", lock: "lock"),
+        "attach" => told!(value, Attach(), device: "device", to: "to"),
+        "detach" => told!(value, Detach(), lower: "lower"),
+        "free" => Some(Call::Free { irp: packet? }),
+        "reuse" => {
+            let irp = packet?;
+            told!(value, Reuse(irp), status: "status")
+        }
+        "cancel" => Some(Call::Cancel { irp: packet? }),
+        "look" => Some(Call::Look { irp: packet? }),
         _ => call_by(name, under("by", value)?, packet?, value),
     }
 }

@@ -72,15 +72,18 @@ impl FromValue for Asked {
         if has_keys(value, &["dispatch", "plan", "shown"]) {
             let id = under("dispatch", value)?;
             let shown = under("shown", value)?;
-            under("plan", value).map(|plan| Asked::Dispatch { id, shown, plan })
+            let plan = under("plan", value)?;
+            Some(Asked::Dispatch { id, shown, plan })
         } else if has_keys(value, &["answer", "completion", "shown"]) {
             let id = under("completion", value)?;
             let shown = under("shown", value)?;
-            under("answer", value).map(|answer| Asked::Completion { id, shown, answer })
+            let answer = under("answer", value)?;
+            Some(Asked::Completion { id, shown, answer })
         } else if has_keys(value, &["answer", "cancel", "shown"]) {
             let id = under("cancel", value)?;
             let shown = under("shown", value)?;
-            under("answer", value).map(|answer| Asked::Cancel { id, shown, answer })
+            let answer = under("answer", value)?;
+            Some(Asked::Cancel { id, shown, answer })
         } else {
             None
         }

@@ -159,17 +159,20 @@ impl FromValue for Plan {
             }
             "hold" => {
                 of_items(value, 2)?;
-                nth(1, value).map(|cancel| Plan::Hold { cancel })
+                let cancel = nth(1, value)?;
+                Some(Plan::Hold { cancel })
             }
             "hold_slot" => has_items(value, 1).then_some(Plan::HoldSlot),
             "skip" => has_items(value, 1).then_some(Plan::Skip),
             "forward" => {
                 of_items(value, 2)?;
-                nth(1, value).map(|set| Plan::Forward { set })
+                let set = nth(1, value)?;
+                Some(Plan::Forward { set })
             }
             "forward_pend" => {
                 of_items(value, 2)?;
-                nth(1, value).map(|set| Plan::ForwardPend { set })
+                let set = nth(1, value)?;
+                Some(Plan::ForwardPend { set })
             }
             _ => None,
         }
@@ -185,7 +188,8 @@ impl FromValue for CancelAnswer {
         match value.get(0)?.as_str()? {
             "finish" => {
                 of_items(value, 2)?;
-                nth(1, value).map(|information| CancelAnswer::Finish { information })
+                let information = nth(1, value)?;
+                Some(CancelAnswer::Finish { information })
             }
             "leave" => has_items(value, 1).then_some(CancelAnswer::Leave),
             _ => None,

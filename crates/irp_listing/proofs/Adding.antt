@@ -29,10 +29,6 @@ both_lines a b x y z first second = record {
       ∙ ap (λ given. x ++ given) (sym (flat_map-append further_of first.lines second.lines));
 }
 
--- the two lines of a question
-pub two_lines : (x y z words more : List ℕ) → y ≡ x ++ further_of words → z ≡ y ++ further_of more → AddsLines 2 x z
-two_lines x y z words more first second = both_lines 1 1 x y z (one_line x y words first) (one_line y z more second)
-
 -- a head, the lines of the questions, and perhaps one more are the block of an entry
 pub is_block : (entry : Entry) (tells_seat is_left_out : Bool) (w x y z : List ℕ) → x ≡ w ++ head_of entry.number (head_text tells_seat is_left_out entry) → AddsLines (length entry.asked * 2) x y → AddsEnd y z → AddsBlock entry w z
 is_block entry tells_seat is_left_out w x y z head asked end =
@@ -51,8 +47,8 @@ is_block entry tells_seat is_left_out w x y z head asked end =
       put = then_more w x z (head_of entry.number words) (flat_map further_of lines.lines) head lines.put;
     }
 
-pub one_end : (x y words : List ℕ) → y ≡ x ++ further_of words → AddsEnd x y
-one_end x y words is = record { count = 1; few = omega arith; adds = one_line x y words is }
+pub one_end : (x y : List ℕ) → AddsLines 1 x y → AddsEnd x y
+one_end x y adds = record { count = 1; few = omega arith; adds = adds }
 
 -- the two lines of one more question
 pub more_lines : (index : ℕ) (x y z : List ℕ) → AddsLines (index * 2) x y → AddsLines 2 y z → AddsLines ((index + 1) * 2) x z

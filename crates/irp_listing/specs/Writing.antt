@@ -1,7 +1,7 @@
 -- What went out of a text, and what the output's count of failures is then.
 use Rattle.std.specs.Prelude.{ℕ, ◌≡◌, ◌<◌, List, ◌++◌, length}
 use Rattle.std.specs.Io.KnownBytes.{Appends, Keeps}
-use Rattle.irp_transcript_writer.specs.Out.{risen}
+use Rattle.irp_streams.specs.Out.{risen}
 use Rattle.irp_listing.specs.Bytes.{Bytes}
 use Rattle.irp_listing.specs.declared.writing.Unwritten.{Unwritten}
 use Rattle.irp_listing.specs.declared.writing.Unwritten.TheVariants.{Failed, NoMemory}

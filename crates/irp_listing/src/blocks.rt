@@ -154,6 +154,20 @@ fn indent(words: &mut String, steps: usize) -> Result<(), AllocError> {
     Ok(())
 }
 
+/// Puts a further line: what is shown, behind as many steps of indentation. The one error is want of memory.
+pub(crate) fn put_shown<D: fmt::Display + Copy>(
+    out: &mut Vec<u8>,
+    words: &mut String,
+    steps: usize,
+    shown: D,
+) -> Result<(), AllocError>
+    ensures { OnOk result (AddsLines 1 out.old.items out.new.items) }
+{
+    indent(words, steps)?;
+    write!(words, "{}", shown)?;
+    put_further(out, words.as_str())
+}
+
 /// Puts the two lines of a question: what was asked, and what was answered. They are indented by the place of the
 /// device in its stack. The one error is want of memory.
 fn put_question(
@@ -168,12 +182,8 @@ fn put_question(
         Some(device) => stacks.count_above(device) + 1,
         None => 0,
     };
-    indent(words, depth)?;
-    write!(words, "{}", QuestionWords(question))?;
-    put_further(out, words.as_str())?;
-    indent(words, depth + 2)?;
-    write!(words, "{}", AnsweredWords(question))?;
-    put_further(out, words.as_str())
+    put_shown(out, words, depth, QuestionWords(question))?;
+    put_shown(out, words, depth + 2, AnsweredWords(question))
 }
 
 /// Puts the lines of all questions, in order. The one error is want of memory.
@@ -198,19 +208,13 @@ fn put_outcome(out: &mut Vec<u8>, words: &mut String, entry: &Entry) -> Result<(
     if !moves(entry) {
         return Ok(());
     }
-    let outcome = outcome_of(entry);
     let Entry { call, reply, .. } = *entry;
-    indent(words, 1)?;
-    write!(
-        words,
-        "{}",
-        OutcomeWords {
-            outcome,
-            call,
-            reply
-        }
-    )?;
-    put_further(out, words.as_str())
+    let shown = OutcomeWords {
+        outcome: outcome_of(entry),
+        call,
+        reply,
+    };
+    put_shown(out, words, 1, shown)
 }
 
 /// Puts the block of an entry: a line with its number, the call and the answer, two lines for each question, and one

@@ -17,7 +17,7 @@ pub use choosing::{Choice, is_chosen};
 pub use leaving::taken_out;
 pub use lines::{put_line, put_row};
 pub use listing::{put_chosen, put_word_line};
-pub use outcome::{Outcome, moves, outcome_of};
+pub use outcome::{EndWords, Outcome, moves, outcome_of};
 pub use questions::AskedWords;
 pub use stacks::Stacks;
 pub use word_lines::WordLineWords;

@@ -3,9 +3,8 @@
 ghost use Rattle.std.specs.Prelude.{◌≡◌, ◌++◌, OnOk};
 ghost use Rattle.irp_listing.specs.Listing.{AddsChosen, AddsWordLine, heading_above};
 
-use crate::blocks::put_block;
+use crate::blocks::{put_block, put_shown};
 use crate::choosing::{Choice, is_chosen};
-use crate::lines::put_further;
 use crate::stacks::Stacks;
 use crate::word_lines::WordLineWords;
 use irp_transcript::WordLine;
@@ -51,7 +50,5 @@ pub fn put_word_line(
     ensures { OnOk result (AddsWordLine is_first pending.old.items pending.new.items) }
 {
     put_heading(pending, is_first)?;
-    words.clear();
-    write!(words, "{}", WordLineWords(line))?;
-    put_further(pending, words.as_str())
+    put_shown(pending, words, 0, WordLineWords(line))
 }

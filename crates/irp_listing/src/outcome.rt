@@ -97,6 +97,28 @@ pub fn outcome_of(entry: &Entry) -> Outcome {
     Outcome::Completed(ended.0, ended.1)
 }
 
+/// Where a packet is after a call that moved it.
+#[derive(Clone, Copy)]
+pub struct EndWords(pub Outcome);
+
+impl fmt::Display for EndWords {
+    fn fmt<W: fmt::Write>(&self, f: &mut fmt::Formatter<W>) -> fmt::Result {
+        match self.0 {
+            Outcome::Held(device) => write!(f, "{} holds the packet", DeviceWords(device)),
+            Outcome::Kept(device, status, information) => write!(
+                f,
+                "{} has the packet again: {}",
+                DeviceWords(device),
+                ResultWords(status, information)
+            ),
+            Outcome::Stays => f.write_str("the packet stays with its device"),
+            Outcome::Completed(status, information) => {
+                write!(f, "completed: {}", ResultWords(status, information))
+            }
+        }
+    }
+}
+
 /// Where the packet is, and what the caller gets.
 #[derive(Clone, Copy)]
 pub struct OutcomeWords {
@@ -107,21 +129,16 @@ pub struct OutcomeWords {
 
 impl fmt::Display for OutcomeWords {
     fn fmt<W: fmt::Write>(&self, f: &mut fmt::Formatter<W>) -> fmt::Result {
-        match self.outcome {
-            Outcome::Held(device) => write!(f, "= {} holds the packet", DeviceWords(device))?,
-            Outcome::Kept(device, status, information) => {
-                write!(f, "= {} has the packet again", DeviceWords(device))?;
-                write!(f, ": {}", ResultWords(status, information))?
-            }
-            Outcome::Stays => f.write_str("= the packet stays with its device")?,
-            Outcome::Completed(status, information) => {
-                write!(f, "= completed: {}", ResultWords(status, information))?
-            }
-        }
         let OutcomeWords { call, reply, .. } = *self;
+        let end = EndWords(self.outcome);
         match reply {
-            Reply::Done => Ok(()),
-            _ => write!(f, "; the caller gets {}", ReplyWords { call, reply }),
+            Reply::Done => write!(f, "= {}", end),
+            _ => write!(
+                f,
+                "= {}; the caller gets {}",
+                end,
+                ReplyWords { call, reply }
+            ),
         }
     }
 }

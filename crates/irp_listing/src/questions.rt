@@ -1,6 +1,6 @@
 //! Questions and what came of them, in words.
 
-use irp_names::{ClosureWords, MajorWords, ResultWords, shown_of};
+use irp_names::{ClosureWords, MajorWords, ResultWords, shown_of, told_if};
 use irp_types::{Asked, DeviceId, Shown, Status};
 use std::fmt;
 
@@ -11,12 +11,12 @@ pub struct QuestionWords(pub Asked);
 
 impl fmt::Display for QuestionWords {
     fn fmt<W: fmt::Write>(&self, f: &mut fmt::Formatter<W>) -> fmt::Result {
-        f.write_str(match self.0 {
-            Asked::Dispatch { .. } => "v ",
-            Asked::Completion { .. } => "^ ",
-            Asked::Cancel { .. } => "! ",
-        })?;
-        write!(f, "{}", AskedWords(self.0))
+        let way = match self.0 {
+            Asked::Dispatch { .. } => "v",
+            Asked::Completion { .. } => "^",
+            Asked::Cancel { .. } => "!",
+        };
+        write!(f, "{} {}", way, AskedWords(self.0))
     }
 }
 
@@ -26,16 +26,13 @@ pub struct AskedWords(pub Asked);
 
 impl fmt::Display for AskedWords {
     fn fmt<W: fmt::Write>(&self, f: &mut fmt::Formatter<W>) -> fmt::Result {
-        let shown = shown_of(self.0);
-        write!(f, "{} {}", Asker(shown.device), ClosureWords(self.0))?;
-        match self.0 {
-            Asked::Dispatch { .. } => write!(f, "{}", ShownToDispatch(shown)),
-            Asked::Completion { .. } => write!(f, "{}", ShownToCompletion(shown)),
-            Asked::Cancel { .. } => {
-                write!(f, ": location {}", shown.location)?;
-                write!(f, ", {}", ResultWords(shown.status, shown.information))
-            }
-        }
+        write!(
+            f,
+            "{} {}{}",
+            Asker(shown_of(self.0).device),
+            ClosureWords(self.0),
+            ShownWords(self.0)
+        )
     }
 }
 
@@ -52,6 +49,25 @@ impl fmt::Display for Asker {
     }
 }
 
+/// What a closure is shown.
+#[derive(Clone, Copy)]
+struct ShownWords(Asked);
+
+impl fmt::Display for ShownWords {
+    fn fmt<W: fmt::Write>(&self, f: &mut fmt::Formatter<W>) -> fmt::Result {
+        match self.0 {
+            Asked::Dispatch { shown, .. } => write!(f, "{}", ShownToDispatch(shown)),
+            Asked::Completion { shown, .. } => write!(f, "{}", ShownToCompletion(shown)),
+            Asked::Cancel { shown, .. } => write!(
+                f,
+                ": location {}, {}",
+                shown.location,
+                ResultWords(shown.status, shown.information)
+            ),
+        }
+    }
+}
+
 /// What a dispatch is shown; a status and information of zero aren't told.
 #[derive(Clone, Copy)]
 struct ShownToDispatch(Shown);
@@ -61,21 +77,28 @@ impl fmt::Display for ShownToDispatch {
         let shown = self.0;
         write!(
             f,
-            ": {}, location {}",
+            ": {}, location {}, word {:#x}{}{}{}",
             MajorWords(shown.major),
-            shown.location
-        )?;
-        write!(f, ", word {:#x}", shown.word)?;
-        if shown.status != Status::SUCCESS || shown.information != 0 {
-            write!(f, ", {}", ResultWords(shown.status, shown.information))?;
+            shown.location,
+            shown.word,
+            ResultTold(shown.status, shown.information),
+            told_if(shown.cancel, ", cancelled"),
+            told_if(!shown.has_lower, ", nothing below")
+        )
+    }
+}
+
+/// A status and information, where they aren't zero.
+#[derive(Clone, Copy)]
+struct ResultTold(Status, u64);
+
+impl fmt::Display for ResultTold {
+    fn fmt<W: fmt::Write>(&self, f: &mut fmt::Formatter<W>) -> fmt::Result {
+        if self.0 == Status::SUCCESS && self.1 == 0 {
+            Ok(())
+        } else {
+            write!(f, ", {}", ResultWords(self.0, self.1))
         }
-        if shown.cancel {
-            f.write_str(", cancelled")?;
-        }
-        if !shown.has_lower {
-            f.write_str(", nothing below")?;
-        }
-        Ok(())
     }
 }
 
@@ -88,16 +111,12 @@ impl fmt::Display for ShownToCompletion {
         let shown = self.0;
         write!(
             f,
-            " (location {}, context {:#x})",
-            shown.location, shown.context
-        )?;
-        write!(f, ": {}", ResultWords(shown.status, shown.information))?;
-        if shown.pending_returned {
-            f.write_str(", PendingReturned")?;
-        }
-        if shown.cancel {
-            f.write_str(", cancelled")?;
-        }
-        Ok(())
+            " (location {}, context {:#x}): {}{}{}",
+            shown.location,
+            shown.context,
+            ResultWords(shown.status, shown.information),
+            told_if(shown.pending_returned, ", PendingReturned"),
+            told_if(shown.cancel, ", cancelled")
+        )
     }
 }

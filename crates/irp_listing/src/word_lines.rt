@@ -16,16 +16,31 @@ impl fmt::Display for WordLineWords {
             act,
             reply,
         } = self.0;
-        write!(f, "step {}  seat {}: ", step, seat)?;
-        match act {
-            Act::OnLock(act) => write!(f, "{}", LockActWords(act))?,
-            Act::Hand(hand) => write!(f, "{}", HandWords(hand))?,
-            Act::OnSlot(act) => write!(f, "{}", SlotActWords(act))?,
+        write!(
+            f,
+            "step {}  seat {}: {} -> {}",
+            step,
+            seat,
+            ActWords(act),
+            WordReplyWords(reply)
+        )
+    }
+}
+
+/// What was done with a remove lock or a cancel slot.
+#[derive(Clone, Copy)]
+struct ActWords(Act);
+
+impl fmt::Display for ActWords {
+    fn fmt<W: fmt::Write>(&self, f: &mut fmt::Formatter<W>) -> fmt::Result {
+        match self.0 {
+            Act::OnLock(act) => write!(f, "{}", LockActWords(act)),
+            Act::Hand(hand) => write!(f, "{}", HandWords(hand)),
+            Act::OnSlot(act) => write!(f, "{}", SlotActWords(act)),
             Act::FinishTaken { slot } => {
-                write!(f, "would finish what it took from cancel slot {}", slot)?
+                write!(f, "would finish what it took from cancel slot {}", slot)
             }
         }
-        write!(f, " -> {}", WordReplyWords(reply))
     }
 }
 
@@ -35,40 +50,45 @@ struct WordReplyWords(WordReply);
 
 impl fmt::Display for WordReplyWords {
     fn fmt<W: fmt::Write>(&self, f: &mut fmt::Formatter<W>) -> fmt::Result {
-        match self.0 {
-            WordReply::Busy { word } => {
-                write!(f, "busy: {} references or attempts in flight", word / 2)?;
-                f.write_str(if word % 2 == 1 {
-                    ", removal has begun"
-                } else {
-                    ", removal hasn't begun"
-                })
-            }
-            WordReply::Taken { use_no } => write!(f, "took use {}", use_no),
-            other => f.write_str(plain_reply(other)),
+        match parts_of(self.0) {
+            (words, None, _) => f.write_str(words),
+            (before, Some(number), behind) => write!(f, "{}{}{}", before, number, behind),
         }
     }
 }
 
-/// An answer that has no number.
-fn plain_reply(reply: WordReply) -> &'static str {
+/// An answer: words, a number where it has one, and the words behind that.
+fn parts_of(reply: WordReply) -> (&'static str, Option<u64>, &'static str) {
     match reply {
-        WordReply::Acquired => "STATUS_SUCCESS",
-        WordReply::DeletePending => "STATUS_DELETE_PENDING: removal has begun",
-        WordReply::Done => "done",
-        WordReply::SeatFull => "seat_full: the seat holds 64 references",
-        WordReply::NotHeld => "not_held: the seat doesn't hold the lock under this tag",
-        WordReply::AlreadyRemoving => "already_removing: another removal came first",
-        WordReply::NoLock => "no_lock: there is no such remove lock",
-        WordReply::Yes => "yes: it is drained",
-        WordReply::Standing => "standing: a request may take it",
-        WordReply::Lost => "lost: a request took it",
-        WordReply::Nothing => "nothing: the slot is empty",
-        WordReply::Used => "used: the slot served before",
-        WordReply::NotStanding => "not_standing: nothing of this seat stands there",
-        WordReply::NoSlot => "no_slot: there is no such cancel slot",
-        WordReply::NoToken => "no_token: the seat took nothing from it",
-        WordReply::Busy { .. } => "busy",
-        WordReply::Taken { .. } => "taken",
+        WordReply::Acquired => ("STATUS_SUCCESS", None, ""),
+        WordReply::DeletePending => ("STATUS_DELETE_PENDING: removal has begun", None, ""),
+        WordReply::Done => ("done", None, ""),
+        WordReply::SeatFull => ("seat_full: the seat holds 64 references", None, ""),
+        WordReply::NotHeld => (
+            "not_held: the seat doesn't hold the lock under this tag",
+            None,
+            "",
+        ),
+        WordReply::AlreadyRemoving => ("already_removing: another removal came first", None, ""),
+        WordReply::NoLock => ("no_lock: there is no such remove lock", None, ""),
+        WordReply::Yes => ("yes: it is drained", None, ""),
+        WordReply::Standing => ("standing: a request may take it", None, ""),
+        WordReply::Lost => ("lost: a request took it", None, ""),
+        WordReply::Nothing => ("nothing: the slot is empty", None, ""),
+        WordReply::Used => ("used: the slot served before", None, ""),
+        WordReply::NotStanding => ("not_standing: nothing of this seat stands there", None, ""),
+        WordReply::NoSlot => ("no_slot: there is no such cancel slot", None, ""),
+        WordReply::NoToken => ("no_token: the seat took nothing from it", None, ""),
+        WordReply::Busy { word } => ("busy: ", Some(word / 2), in_flight(word % 2 == 1)),
+        WordReply::Taken { use_no } => ("took use ", Some(use_no), ""),
+    }
+}
+
+/// What is counted of a lock that is busy, and whether a removal of it has begun.
+fn in_flight(has_begun: bool) -> &'static str {
+    if has_begun {
+        " references or attempts in flight, removal has begun"
+    } else {
+        " references or attempts in flight, removal hasn't begun"
     }
 }

@@ -3,7 +3,7 @@
 ghost use Rattle.std.specs.Prelude.{◌≡◌, [], IfErr, OnOk};
 ghost use Rattle.irp_listing.specs.Writing.{BreaksOff, Written};
 
-use irp_transcript_writer::{Out, put_all};
+use irp_streams::{Out, put_all};
 use std::alloc::AllocError;
 
 /// Why a text wasn't written whole.

@@ -1,19 +1,18 @@
 -- What the next line of a transcript adds: an entry, or a word line.
-use Rattle.std.proofs.Common.{◌≡◌, ℕ, ◌<◌, ◌&&◌, nat_lt, Bool, true, false, [], ◌∷◌, ◌++◌, length, Option, Some, None, refl, sym, subst, ap, ◌∙◌, if◌then◌else◌, inl, inr, arith, ◌+◌, ◌≤◌, ◌^◌, length-append}
+use Rattle.std.proofs.Common.{◌≡◌, ℕ, ◌<◌, ◌==◌, nat_lt, List, [], ◌∷◌, ◌++◌, length, Option, Some, None, refl, sym, subst, ap, ◌∙◌, inl, inr, arith, ◌+◌, ◌≤◌, ◌^◌, length-append}
 use Rattle.std.specs.Prelude.{◌⊎◌, slice_index_or}
 use Rattle.std.proofs.lemmas.List.{get_or_push}
 use Rattle.irp_judge.specs.Judging.{HasJudged, JudgeValue}
 use Rattle.irp_live.specs.Sessions.{Stands}
-use Rattle.std.proofs.lemmas.Option.{none-some, same_Some}
+use Rattle.std.proofs.lemmas.Bool.{and_parts, ltb-true}
+use Rattle.std.proofs.lemmas.Option.{none-some}
 use Rattle.serde_json.specs.Data.{Data}
-use Rattle.irp_forms.specs.Parts.{◌>>=◌}
 use Rattle.irp_types.specs.declared.entry.Entry.{Entry}
 use Rattle.irp_transcript.specs.Transcripts.{TranscriptValue}
-use Rattle.irp_transcript.specs.declared.{header.Form.Form, header.Header.Header}
-use Rattle.irp_transcript_reader.specs.Forms.{has_entry, has_word}
-use Rattle.irp_transcript_reader.specs.Lines.{entry_at}
-use Rattle.irp_transcript_reader.specs.Reading.{IsNext, IsNextUnder, has_room, hands_within, is_entry, most_entries, with_entry, with_line, with_word}
-use Rattle.irp_transcript_reader.specs.WordLines.{word_line_at}
+use Rattle.irp_transcript.specs.declared.{header.Header.Header, word_line.WordLine.WordLine}
+use Rattle.irp_transcript_reader.specs.Reading.{IsNext, Says, most_entries, seen_of, with_line}
+use Rattle.irp_transcript_reader.specs.declared.line.Line.{Line}
+use Rattle.irp_transcript_reader.specs.declared.line.Line.TheVariants.{Header as HeaderLine, Entry as EntryLine, Word as WordLineOf}
 
 -- an entry was added behind the others, of which there were few enough
 pub record Added (before after : TranscriptValue) : Type 0 where
@@ -25,48 +24,22 @@ pub record Added (before after : TranscriptValue) : Type 0 where
 abbrev pub Grown : TranscriptValue → TranscriptValue → Type 0
 Grown before after = (after.header ≡ before.header) × ((after.entries ≡ before.entries) ⊎ Added before after)
 
-put : (before made after : TranscriptValue) → Grown before made → Some made ≡ Some after → Grown before after
-put before made after grown is = subst (Grown before) (same_Some made after is) grown
+abbrev under : Option Header → List Entry → List WordLine → TranscriptValue
+under known entries words = record { header = known; entries = entries; words = words }
 
-follows : {T : Type 0} (before : TranscriptValue) (given : Option T) (next : T → Option TranscriptValue) (after : TranscriptValue)
-    → ((value : T) → next value ≡ Some after → Grown before after) → (given >>= next) ≡ Some after → Grown before after
-follows before None next after grows made = absurd (none-some after made)
-follows before (Some value) next after grows made = grows value made
-
-guarded : (before : TranscriptValue) (test : Bool) (made : Option TranscriptValue) (after : TranscriptValue)
-    → (test ≡ true → made ≡ Some after → Grown before after) → (if test then made else None) ≡ Some after → Grown before after
-guarded before true made after grows is = grows refl is
-guarded before false made after grows is = absurd (none-some after is)
-
-entry_grows : (kind : Form) (seats : ℕ) (before after : TranscriptValue) (entry : Entry) → with_entry kind seats before entry ≡ Some after → Grown before after
-unfolding with_entry
-entry_grows kind seats before after entry is =
-    guarded before (has_room before && (nat_lt entry.seat seats && has_entry kind entry)) _ after
-    (λ test. put before _ after (refl, inr (record { entry = entry; few = grind arith; entries = refl }))) is
-
-word_grows : (kind : Form) (seats : ℕ) (before after : TranscriptValue) (form : Data) → with_word kind seats before form ≡ Some after → Grown before after
-unfolding with_word
-word_grows kind seats before after form is =
-    follows before (word_line_at form) _ after
-    (λ line. guarded before ((nat_lt line.seat seats && hands_within seats line.act) && has_word kind line) _ after
-    (λ test. put before _ after (refl, inl refl))) is
-
-chosen : (before : TranscriptValue) (test : Bool) (one other : Option TranscriptValue) (after : TranscriptValue)
-    → (one ≡ Some after → Grown before after) → (other ≡ Some after → Grown before after) → (if test then one else other) ≡ Some after → Grown before after
-chosen before true one other after first second is = first is
-chosen before false one other after first second is = second is
-
-line_grows : (kind : Form) (seats : ℕ) (before after : TranscriptValue) (form : Data) → with_line kind seats before form ≡ Some after → Grown before after
-unfolding with_line
-line_grows kind seats before after form is =
-    chosen before (is_entry form) (entry_at form >>= with_entry kind seats before) (with_word kind seats before form) after
-    (follows before (entry_at form) (with_entry kind seats before) after (entry_grows kind seats before after)) (word_grows kind seats before after form) is
+grows_under : (header : Header) (known : Option Header) (entries : List Entry) (words : List WordLine) (form : Data) (line : Line) → known ≡ Some header
+    → Says (seen_of (under known entries words)) form line → Grown (under known entries words) (with_line (under known entries words) line)
+grows_under header None entries words form line is says = absurd (none-some header is)
+grows_under header (Some known) entries words form (HeaderLine other) is says = absurd says
+grows_under header (Some known) entries words form (EntryLine entry) is says =
+    let room = and_parts (length words == 0) (nat_lt (length entries) most_entries) (and_parts _ _ says.2).0 in
+    (refl, inr (record { entry = entry; few = ltb-true (length entries) most_entries room.1; entries = refl }))
+grows_under header (Some known) entries words form (WordLineOf word) is says = (refl, inl refl)
 
 -- behind a header, the next line adds at most one entry
 pub grown : (header : Header) (before after : TranscriptValue) (form : Data) → before.header ≡ Some header → IsNext before form after → Grown before after
 grown header before after form is next =
-    let under : IsNextUnder (Some header) before form after = subst (λ known. IsNextUnder known before form after) is next in
-    line_grows header.form header.seats before after form under
+    subst (Grown before) (sym next.2) (grows_under header before.header before.entries before.words form next.0 is next.1)
 
 same_stands : (judge : JudgeValue) (before after : TranscriptValue) → after.header ≡ before.header
     → (after.entries ≡ before.entries) ⊎ Added before after → length after.entries ≤ length before.entries

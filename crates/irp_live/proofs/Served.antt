@@ -5,9 +5,9 @@ use Rattle.irp_judge.specs.declared.verdict.Verdict.{Verdict}
 use Rattle.irp_transcript.specs.Transcripts.{TranscriptValue}
 use Rattle.irp_transcript_writer.specs.Json.{line_text}
 use Rattle.irp_live.specs.Sessions.{SessionValue, Stands}
-use Rattle.irp_live.specs.Streams.{Streams}
+use Rattle.irp_streams.specs.Streams.{Streams}
 use Rattle.irp_live.specs.Talking.{IsFinished, IsServed, Says}
-use Rattle.irp_live.specs.declared.lines.StreamFault.{StreamFault}
+use Rattle.irp_streams.specs.declared.reading.StreamFault.{StreamFault}
 
 pub served : (told : TranscriptValue) (old mid new : Streams) (begun : SessionValue) (result : Result Verdict StreamFault) → begun.told ≡ told
     → Stands begun → Says (line_text null) old mid → IsFinished begun mid result new → IsServed told old result new

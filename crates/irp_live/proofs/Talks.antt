@@ -4,7 +4,7 @@ use Rattle.std.proofs.KnownBytes.{Appends-trans, Consumes-trans, Appends-nil, Co
 use Rattle.std.proofs.lemmas.Grind.{flat_map-append}
 use Rattle.std.specs.Io.KnownBytes.{Appends, Consumes}
 use Rattle.irp_live.specs.Sessions.{SessionValue}
-use Rattle.irp_live.specs.Streams.{Streams}
+use Rattle.irp_streams.specs.Streams.{Streams}
 use Rattle.irp_live.specs.Talking.{Exchange, Talked, Talks, heard_text, said_text}
 
 talks_both : (first : ℕ) (a b c : SessionValue) (some others : List Exchange)

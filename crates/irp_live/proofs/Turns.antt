@@ -2,7 +2,8 @@
 use Rattle.std.proofs.Common.{◌≡◌, ℕ, ◌+◌, List, [], ◌∷◌, ◌++◌, append-nil, arith, true, false, Some, None, refl, sym, subst, ◌∙◌, inl, inr}
 use Rattle.std.specs.Io.KnownBytes.{Consumes}
 use Rattle.irp_live.specs.Sessions.{IsReplyLine, SessionValue, Stands}
-use Rattle.irp_live.specs.Streams.{Breaks, Bytes, IsRead, Puts, Streams, TakesSome}
+use Rattle.irp_streams.specs.Streams.{Bytes, Streams}
+use Rattle.irp_live.specs.Streams.{Breaks, IsRead, Puts, TakesSome}
 use Rattle.irp_live.specs.Talking.{Ended, Exchange, IsStopped, Talked, heard_text, said_text}
 
 -- a line that was read was taken

@@ -4,7 +4,7 @@ use Rattle.irp_judge.specs.declared.verdict.Verdict.{Verdict}
 use Rattle.irp_judge.specs.declared.verdict.Verdict.TheVariants as verdict
 use Rattle.irp_live.specs.declared.ending.Ending.{Ending}
 use Rattle.irp_live.specs.declared.ending.Ending.TheVariants.{Done, RefusedHeader, Illegal, NoMemory, OtherWords, Failed}
-use Rattle.irp_live.specs.declared.lines.StreamFault.TheVariants as stream
+use Rattle.irp_streams.specs.declared.reading.StreamFault.TheVariants as stream
 use Rattle.irp_live.specs.declared.talking.LiveFault.{LiveFault}
 use Rattle.irp_live.specs.declared.talking.LiveFault.TheVariants as live
 

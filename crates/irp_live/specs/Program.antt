@@ -2,7 +2,7 @@
 use Rattle.std.specs.Prelude.{◌≡◌, Result}
 use Rattle.irp_judge.specs.declared.verdict.Verdict.{Verdict}
 use Rattle.irp_live.specs.Ending.{ending_of}
-use Rattle.irp_live.specs.Streams.{Streams}
+use Rattle.irp_streams.specs.Streams.{Streams}
 use Rattle.irp_live.specs.Talking.{IsLived}
 use Rattle.irp_live.specs.declared.ending.Ending.{Ending}
 use Rattle.irp_live.specs.declared.ending.Ending.TheVariants as ending

@@ -1,29 +1,10 @@
--- The streams of the program: its input and its output, before and after some work.
-use Rattle.std.specs.Prelude.{ℕ, ◌≡◌, ◌<◌, ◌++◌, ◌∷◌, ◌⊎◌, [], List, Bool, true, false, length, IfSome, Option}
+-- What the program takes of its input, and puts into its output.
+use Rattle.std.specs.Prelude.{ℕ, ◌≡◌, ◌<◌, ◌++◌, ◌∷◌, ◌⊎◌, [], List, Bool, true, false, length, IfSome}
 use Rattle.std.specs.Io.{StopsAt}
 use Rattle.std.specs.Io.BufRead.{take_through}
 use Rattle.std.specs.Io.KnownBytes.{Appends, Consumes}
-use Rattle.irp_transcript_writer.specs.Out.{risen}
-
--- what is left of an input, or what went out, where that is known
-abbrev pub Bytes : Type 0
-Bytes = Option (List ℕ)
-
--- what went out, and how often the output failed
-pub record Output : Type 0 where
-  pub gone : Bytes
-  pub failures : ℕ
-
-abbrev pub output_of : Bytes → ℕ → Output
-output_of gone failures = record { gone = gone; failures = failures }
-
--- what is left of the input, and the output
-pub record Streams : Type 0 where
-  pub left : Bytes
-  pub output : Output
-
-abbrev pub streams_of : Bytes → Bytes → ℕ → Streams
-streams_of left gone failures = record { left = left; output = output_of gone failures }
+use Rattle.irp_streams.specs.Out.{risen}
+use Rattle.irp_streams.specs.Streams.{Bytes, Output}
 
 -- what was taken of an input is all up to its first newline, or to its end
 abbrev pub IsUpToNewline : Bytes → List ℕ → Type 0

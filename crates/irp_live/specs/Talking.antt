@@ -17,11 +17,12 @@ use Rattle.irp_live.specs.Asking.{IsHeard, IsUnheard}
 use Rattle.irp_live.specs.declared.asking.Unheard.{Unheard}
 use Rattle.irp_live.specs.declared.asking.Unheard.TheVariants.{Fault, NoMemory}
 use Rattle.irp_live.specs.Sessions.{IsAnswered, IsEnd, SessionValue, Stands}
-use Rattle.irp_live.specs.Streams.{Breaks, IsCut, IsRead, Output, Puts, Streams, TakesSome}
+use Rattle.irp_streams.specs.Streams.{Output, Streams}
+use Rattle.irp_live.specs.Streams.{Breaks, IsCut, IsRead, Puts, TakesSome}
 use Rattle.irp_live.specs.Told.{fault_json}
 use Rattle.irp_live.specs.declared.asking.LineFault.{LineFault}
 use Rattle.irp_live.specs.declared.asking.LineFault.TheVariants.{NoForm}
-use Rattle.irp_live.specs.declared.lines.StreamFault.{StreamFault}
+use Rattle.irp_streams.specs.declared.reading.StreamFault.{StreamFault}
 use Rattle.irp_live.specs.declared.talking.LiveFault.{LiveFault}
 use Rattle.irp_live.specs.declared.talking.LiveFault.TheVariants.{RefusedHeader, Stream}
 

@@ -3,9 +3,9 @@
 ghost use Rattle.std.specs.Prelude.{◌≡◌};
 ghost use Rattle.irp_live.specs.Ending.{complaint_of, ending_of, status_of};
 
-use crate::lines::StreamFault;
 use crate::talking::LiveFault;
 use irp_judge::Verdict;
+use irp_streams::StreamFault;
 
 /// How the program ends, as `irpx check` does (README.md).
 #[derive(Clone, Copy, PartialEq, Eq)]

@@ -1,32 +1,12 @@
 //! Lines in and out.
 
 ghost use Rattle.std.specs.Prelude.{◌≡◌, IfErr, IfOk, OnErr, OnOk};
-ghost use Rattle.irp_live.specs.Streams.{Breaks, IsRead, Puts, TakesSome, output_of};
-ghost use Rattle.irp_live.specs.declared.lines.StreamFault.TheVariants.{Failed};
+ghost use Rattle.irp_streams.specs.Streams.{output_of};
+ghost use Rattle.irp_live.specs.Streams.{Breaks, IsRead, Puts, TakesSome};
+ghost use Rattle.irp_streams.specs.declared.reading.StreamFault.TheVariants.{Failed};
 
-use irp_transcript_writer::{Out, put_all};
-use std::alloc::AllocError;
+use irp_streams::{Out, StreamFault, put_all};
 use std::io::{BufRead, ErrorKind};
-
-/// Why an input wasn't read, or an output not written whole.
-#[derive(Clone, Copy)]
-pub enum StreamFault {
-    /// The input or the output failed.
-    Failed,
-    /// Memory ran out.
-    NoMemory,
-}
-
-impl From<AllocError> for StreamFault {
-    ghost use Rattle.std.specs.Prelude.{◌≡◌};
-    ghost use Rattle.irp_live.specs.declared.lines.StreamFault.TheVariants.{NoMemory};
-
-    ghost from_gives = { λ _ fault. fault ≡ NoMemory };
-
-    fn from(_error: AllocError) -> StreamFault {
-        StreamFault::NoMemory
-    }
-}
 
 /// Reads the next line in place of what the room has, without its newline. False where there is no newline any more;
 /// then all that was left is taken.

@@ -11,13 +11,14 @@ mod talking;
 mod told;
 
 ghost use Rattle.irp_live.specs.Program.{Obeys};
-ghost use Rattle.irp_live.specs.Streams.{streams_of};
+ghost use Rattle.irp_streams.specs.Streams.{streams_of};
 
 use crate::ending::{Ending, ending_of};
 use crate::order::{HELP, Order, words_ask};
-use irp_transcript_writer::{Out, WriterOut};
+use irp_program::stop;
+use irp_streams::{Out, WriterOut};
 use std::alloc::Global;
-use std::io::{self, BufRead, Write};
+use std::io::{self, BufRead};
 use std::process::ExitCode;
 
 /// Does what is asked for.
@@ -40,10 +41,7 @@ fn run<R: BufRead, O: Out>(alloc: Global, input: &mut R, output: &mut O, order: 
 fn main(rt: HostRuntime) -> ExitCode {
     let mut output = WriterOut::new(io::writer(&rt));
     let mut input = rt.stdin().lock();
-    let mut ending = run(rt.alloc(), &mut input, &mut output, words_ask(&rt));
+    let ending = run(rt.alloc(), &mut input, &mut output, words_ask(&rt));
     let complaint = ending.complaint();
-    if !complaint.is_empty() && writeln!(rt.stderr(), "{complaint}").is_err() {
-        ending = Ending::Failed;
-    }
-    ExitCode::from(ending.status())
+    stop(&rt, ending.status(), !complaint.is_empty(), &complaint)
 }

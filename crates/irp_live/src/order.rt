@@ -1,6 +1,6 @@
 //! What the command line asks for.
 
-use std::env;
+use irp_program::{Unasked, words_of};
 
 /// What `--help` prints.
 pub const HELP: &str = "\
@@ -42,11 +42,10 @@ pub enum Order {
 
 /// What the words ask for.
 pub fn words_ask(rt: &HostRuntime) -> Order {
-    let Ok(words) = env::args(rt) else {
-        return Order::Other;
-    };
-    let Ok(words) = words.collect::<Vec<String>>(rt.alloc()) else {
-        return Order::NoMemory;
+    let words = match words_of(rt) {
+        Ok(words) => words,
+        Err(Unasked::Usage) => return Order::Other,
+        Err(Unasked::NoMemory) => return Order::NoMemory,
     };
     match words.as_slice() {
         [] | [_] => Order::Live,

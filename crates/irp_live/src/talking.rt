@@ -8,7 +8,8 @@ ghost use Rattle.irp_transcript.specs.Transcripts.{no_lines};
 ghost use Rattle.irp_transcript_reader.specs.Reading.{IsNext, so_far};
 ghost use Rattle.irp_transcript_writer.specs.Json.{line_text};
 ghost use Rattle.irp_live.specs.Sessions.{Stands, session_of};
-ghost use Rattle.irp_live.specs.Streams.{IsCut, Puts, output_of, streams_of};
+ghost use Rattle.irp_streams.specs.Streams.{output_of, streams_of};
+ghost use Rattle.irp_live.specs.Streams.{IsCut, Puts};
 ghost use Rattle.irp_live.specs.Told.{fault_json};
 ghost use Rattle.irp_live.specs.Talking.{
   IsBegun,
@@ -24,14 +25,15 @@ ghost use Rattle.irp_live.specs.Talking.{
 };
 
 use crate::asking::{LineFault, Unheard, value_of};
-use crate::lines::{StreamFault, put, read_line};
+use crate::lines::{put, read_line};
 use crate::session::Session;
 use crate::told::Faulty;
 use irp_forms::Unread;
 use irp_judge::Verdict;
+use irp_streams::{Out, StreamFault};
 use irp_transcript::Header;
 use irp_transcript_reader::Reading;
-use irp_transcript_writer::{Out, line_of};
+use irp_transcript_writer::line_of;
 use irp_types::Refusal;
 use serde_json::Value;
 use std::alloc::{AllocError, Global};

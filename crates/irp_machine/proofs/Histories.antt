@@ -12,6 +12,7 @@ use Rattle.irp_manager.specs.Notes.{known_by}
 use Rattle.irp_manager.specs.declared.manager_state.Applied.{Applied}
 use Rattle.irp_manager.proofs.Recording.{leads_none, leads_more, undrained}
 use Rattle.irp_plain.specs.Seats.{SeatValue}
+use Rattle.irp_plain.specs.declared.parts.After.{After}
 use Rattle.irp_plain.specs.declared.parts.Change.{Change}
 use Rattle.irp_plain.specs.declared.parts.Learned.{Learned}
 use Rattle.irp_script_reader.specs.declared.script.ScriptParts.{ScriptParts}
@@ -27,7 +28,7 @@ use Rattle.irp_machine.specs.Machine.{RulesValue, Acts, allocates, ClosesIf, IsN
 use Rattle.irp_machine.specs.Next.{called, next_of}
 use Rattle.irp_machine.specs.Openings.{MakesAll, Opens, begun, first_standing, rules_of, seats_of}
 use Rattle.irp_machine.specs.Orders.{IsOrder}
-use Rattle.irp_machine.specs.Replays.{IsActed, IsPlayed, IsSetUp, Plays, PlaysIn, Records, OrdersHaveHistories, ReplaysEndSo, told_end}
+use Rattle.irp_machine.specs.Replays.{IsActed, IsPlayed, IsSetUp, Plays, PlaysIn, PlaysSo, Records, OrdersHaveHistories, ReplaysEndSo, told_end}
 use Rattle.irp_machine.specs.Settled.{steps_settled}
 use Rattle.irp_machine.specs.Standings.{StandingValue, after_change, with_manager}
 use Rattle.irp_machine.proofs.OneHeader.{header_once}
@@ -86,12 +87,17 @@ step_made rules standing old new seat None after plays = absurd plays
 step_made rules standing old new seat (Some planned) after plays = (after, refl, plays.0)
 
 -- what was made and recorded, and then the change
-pub played_in : (rules : RulesValue) (standing middle new : StandingValue) (seat : ℕ) (planned : Planned) (act : Option Planned) (old entries : List Entry) (change : Change)
-    → act ≡ Some planned → IsActed rules standing seat planned (next_of standing (seat_at standing seat) planned) old middle entries change
-    → new ≡ after_change seat change planned.place rules.tells middle → PlaysIn rules standing old seat act new entries
-played_in rules standing middle new seat planned act old entries change is acted after =
-    subst (λ (act : Option Planned). PlaysIn rules standing old seat act new entries) (sym is)
-    ((change, acted.0.0, after ∙ ap (λ (middle : StandingValue). after_change seat change planned.place rules.tells middle) acted.0.1), acted.1)
+pub played_so : (rules : RulesValue) (standing middle new : StandingValue) (seat : ℕ) (planned : Planned) (old entries : List Entry) (change : Change)
+    → IsActed rules standing seat planned (next_of standing (seat_at standing seat) planned) old middle entries change
+    → new ≡ after_change seat change planned.place rules.tells middle → PlaysSo rules standing old seat planned new entries change.after
+played_so rules standing middle new seat planned old entries change acted after =
+    ((change, acted.0.0, after ∙ ap (λ (middle : StandingValue). after_change seat change planned.place rules.tells middle) acted.0.1), acted.1, refl)
+
+-- the step that comes next
+pub played_in : (rules : RulesValue) (standing new : StandingValue) (seat : ℕ) (planned : Planned) (act : Option Planned) (old entries : List Entry) (behind : After)
+    → act ≡ Some planned → PlaysSo rules standing old seat planned new entries behind → PlaysIn rules standing old seat act new entries
+played_in rules standing new seat planned act old entries behind is so =
+    subst (λ (act : Option Planned). PlaysIn rules standing old seat act new entries) (sym is) (so.0, so.1)
 
 -- steps that were recorded were made
 pub all_made : (rules : RulesValue) (standing : StandingValue) (old new : List Entry) (path : List ℕ) (last : StandingValue)

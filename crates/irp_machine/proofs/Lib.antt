@@ -12,3 +12,4 @@ pub mod Setup
 pub mod Sorting
 pub mod Stuck
 pub mod Untold
+pub mod RunsOn

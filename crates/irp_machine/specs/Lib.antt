@@ -11,6 +11,7 @@ pub mod Settled
 pub mod Planning
 pub mod Orders
 pub mod Replays
+pub mod Runs
 pub mod Headers
 pub mod Openings
 pub mod Limits

@@ -18,6 +18,7 @@ use Rattle.irp_script_reader.specs.declared.script.ScriptParts.{ScriptParts}
 use Rattle.irp_machine.specs.declared.outcome.End.{End}
 use Rattle.irp_machine.specs.declared.outcome.Outcome.{Outcome}
 use Rattle.irp_machine.specs.declared.parts.Calling.{Calling}
+use Rattle.irp_plain.specs.declared.parts.After.{After}
 use Rattle.irp_plain.specs.declared.parts.Change.{Change}
 use Rattle.irp_machine.specs.declared.parts.Next.{Next}
 use Rattle.irp_machine.specs.declared.parts.Next.TheVariants.{Changes, Calls}
@@ -53,6 +54,14 @@ abbrev pub Records :
 Records rules standing seat planned (Changes one) change is old new = new ≡ old
 Records rules standing seat planned (Calls calling) change made old new =
     (entry : Entry) × TellsCall rules standing seat planned calling change made entry × (new ≡ old ++ entry ∷ [])
+
+-- the next step of a seat was made, in this act, and recorded; and this is where the seat is behind it
+abbrev pub PlaysSo :
+    RulesValue → StandingValue → List Entry → ℕ → Planned → StandingValue → List Entry → After → Type 0
+PlaysSo rules standing old seat planned after new behind =
+    (made : Makes rules standing seat planned (next_of standing (seat_at standing seat) planned) after)
+    × Records rules standing seat planned (next_of standing (seat_at standing seat) planned) made.0 made.1 old new
+    × (behind ≡ made.0.after)
 
 -- the next step of a seat was made, in this act, and recorded
 abbrev pub PlaysIn : RulesValue → StandingValue → List Entry → ℕ → Option Planned → StandingValue → List Entry → Type 0

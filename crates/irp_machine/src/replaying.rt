@@ -1,6 +1,6 @@
 //! One order made again, as a transcript.
 
-ghost use Rattle.std.specs.Prelude.{◌≡◌, ◌<◌, ◌++◌, IfErr, IfOk, None, OnOk, [], filter_map, length, true};
+ghost use Rattle.std.specs.Prelude.{◌≡◌, ◌<◌, ◌++◌, IfErr, IfOk, None, OnOk, Some, [], filter_map, length, true};
 ghost use Rattle.irp_types.specs.Histories.{LeadsTo};
 ghost use Rattle.irp_transcript.specs.Headers.{fixed_of};
 ghost use Rattle.irp_script_reader.specs.Sound.{IsSound};
@@ -9,7 +9,7 @@ ghost use Rattle.irp_machine.specs.Machine.{act_of, seat_at};
 ghost use Rattle.irp_machine.specs.Next.{next_of};
 ghost use Rattle.irp_machine.specs.Openings.{IsStuck, Opens, rules_of};
 ghost use Rattle.irp_machine.specs.Replays as spec;
-ghost use Rattle.irp_machine.specs.Replays.{IsActed, IsReplay, IsSetUp, Plays, PlaysIn, StopsShort};
+ghost use Rattle.irp_machine.specs.Replays.{IsActed, IsReplay, IsSetUp, Plays, PlaysIn, PlaysSo, StopsShort};
 ghost use Rattle.irp_machine.specs.declared.limits.NotMade.TheVariants.{NoStep};
 ghost use Rattle.irp_machine.specs.declared.parts.Next.TheVariants.{Calls};
 
@@ -20,7 +20,7 @@ use crate::next::{called, next_of};
 use crate::opening::{first_standing, machine_of, opened, seats_of};
 use crate::parts::{Calling, Next, Planned};
 use crate::standing::Standing;
-use irp_plain::{Answered, Change, Learned, Told, push_if};
+use irp_plain::{After, Answered, Change, Learned, Told, push_if};
 use irp_script_reader::{Script, ScriptParts, Step, StepAct};
 use irp_transcript::{Act, Header, Transcript, WordLine};
 use irp_types::{Call, Entry, Questions, Row, SlotAct, history_goes_on};
@@ -88,6 +88,27 @@ fn act_again(
     }
 }
 
+/// Makes the next step of a seat in this act, records its call, and tells where the seat is behind it.
+pub fn play_in(
+    machine: &ScriptMachine,
+    entries: &mut Vec<Entry>,
+    standing: &mut Standing,
+    seat: u32,
+    planned: Planned,
+) -> Result<After, AllocError>
+    requires act { act_of machine.now standing.old seat ≡ Some planned }
+    requires leads { LeadsTo machine.now.fixed entries.old.items standing.old.manager.state }
+    ensures plays { IfOk result (PlaysSo machine.now standing.old entries.old.items seat planned
+        standing.new entries.new.items) }
+    ensures leads { OnOk result
+        (LeadsTo machine.now.fixed entries.new.items standing.new.manager.state) }
+{
+    let before = standing.copy()?;
+    let change = act_again(machine, entries, standing, &before, seat, planned)?;
+    standing.change(seat as usize, change, planned.place, machine.tells())?;
+    Ok(change.after)
+}
+
 /// Makes a step of a seat again, and records its call.
 ///
 /// # Errors
@@ -107,13 +128,10 @@ fn play(
     ensures no_step { IfErr result (λ refusal. refusal ≡ NoStep
         → act_of machine.now standing.old seat ≡ None) }
 {
-    let place = seat as usize;
-    let Some(planned) = machine.act_of(standing, place) else {
+    let Some(planned) = machine.act_of(standing, seat as usize) else {
         return Err(NotMade::NoStep);
     };
-    let before = standing.copy()?;
-    let change = act_again(machine, entries, standing, &before, seat, planned)?;
-    standing.change(place, change, planned.place, machine.tells())?;
+    let _behind = play_in(machine, entries, standing, seat, planned)?;
     Ok(())
 }
 

@@ -1,6 +1,7 @@
 pub mod Calls
 pub mod Closures
 pub mod Majors
+pub mod Minors
 pub mod Refusals
 pub mod Replies
 pub mod Rows

@@ -1,5 +1,5 @@
 -- Major function codes in words.
-use Rattle.std.specs.Prelude.{ℕ, List, [], ◌∷◌, ◌++◌, codes, false}
+use Rattle.std.specs.Prelude.{ℕ, ◌≢◌, ◌<◌, List, [], ◌∷◌, ◌++◌, codes, false, Some}
 use Rattle.std.specs.Option.{option_map_or}
 use Rattle.irp_names.specs.Rows.{Row, named}
 use Rattle.irp_names.specs.Small.{wide_hex}
@@ -36,6 +36,10 @@ major_rows =
     ∷ (0x1a, codes "IRP_MJ_SET_QUOTA")
     ∷ (0x1b, codes "IRP_MJ_PNP")
     ∷ []
+
+-- no major below this one has the name
+abbrev pub NoneIsNamed : List ℕ → ℕ → Type 0
+NoneIsNamed name next = (major : ℕ) → major < next → named major_rows major ≢ Some name
 
 -- a major by its name, or by its number
 abbrev pub major_text : ℕ → List ℕ

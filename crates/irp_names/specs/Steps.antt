@@ -1,6 +1,6 @@
 -- Steps by their words, and the calls that they make.
 use Rattle.std.specs.Prelude.{ℕ, get_or, List, [], map, Option}
-use Rattle.std.specs.List.{find}
+use Rattle.std.specs.List.{find, slice_get}
 use Rattle.std.specs.Option.{option_map}
 use Rattle.std.proofs.Common.{bytes_eq}
 use Rattle.irp_types.specs.Calls.{Call}
@@ -13,12 +13,22 @@ use Rattle.irp_names.specs.declared.step_names.TheConstants.{ACTS}
 abbrev pub under : List ℕ → List (List ℕ × Act) → Option Act
 under word rows = option_map (λ row. row.1) (find (λ row. bytes_eq word row.0) rows)
 
--- each step under its word; the routine of Windows that each stands for
+-- each step under its word; then the routine of Windows that each stands for, its name in docs/RULES.md, and for a call
+-- its checks and what it is answered
 unfoldable pub act_rows : List (List ℕ × Act)
 act_rows = map (λ form. (form.1.now, form.0)) ACTS
 
 unfoldable pub windows_names : List (List ℕ)
 windows_names = map (λ form. form.2.now) ACTS
+
+unfoldable pub rules_names : List (List ℕ)
+rules_names = map (λ form. form.3.now) ACTS
+
+unfoldable pub checks : List (List ℕ)
+checks = map (λ form. form.4.now) ACTS
+
+unfoldable pub answers : List (List ℕ)
+answers = map (λ form. form.5.now) ACTS
 
 -- the place of a step's row
 abbrev pub act_place : Act → ℕ
@@ -55,6 +65,23 @@ act_word one = get_or (map (λ row. row.0) act_rows) (act_place one) []
 
 unfoldable pub windows_name : Act → List ℕ
 windows_name one = get_or windows_names (act_place one) []
+
+-- its name in docs/RULES.md, its checks there, and what it is answered
+unfoldable pub rules_name : Act → List ℕ
+rules_name one = get_or rules_names (act_place one) []
+
+unfoldable pub checks_of : Act → List ℕ
+checks_of one = get_or checks (act_place one) []
+
+unfoldable pub answer_of : Act → List ℕ
+answer_of one = get_or answers (act_place one) []
+
+-- what stands at a place of these rows, and the step at a place
+abbrev pub placed : ℕ → List (List ℕ × Act) → Option Act
+placed place rows = option_map (λ row. row.1) (slice_get rows place)
+
+unfoldable pub act_at : ℕ → Option Act
+act_at place = placed place act_rows
 
 -- the step that a word names
 unfoldable pub act_named : List ℕ → Option Act

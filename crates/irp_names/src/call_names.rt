@@ -21,11 +21,6 @@ pub fn call_name(call: Call) -> &'static str
     act_of(call).windows_name()
 }
 
-/// The name of a call in docs/RULES.md (this project's own).
-pub fn rules_name(call: Call) -> &'static str {
-    act_of(call).rules_name()
-}
-
 /// The party that a call names. None where it names none (docs/RULES.md, Who may do what).
 pub fn caller_of(call: Call) -> Option<Party>
     ensures { result ≡ caller_of call }

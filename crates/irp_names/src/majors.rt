@@ -1,8 +1,8 @@
 //! Major function codes.
 
-ghost use Rattle.std.specs.Prelude.{◌≡◌, ◌≤◌, ◌↔◌, Some, false, true, is_some};
+ghost use Rattle.std.specs.Prelude.{◌≡◌, ◌+◌, ◌≤◌, ◌↔◌, IfNone, IfSome, Some, false, true, is_some};
 ghost use Rattle.std.specs.Option.{option_map};
-ghost use Rattle.irp_names.specs.Majors.{major_rows, major_text};
+ghost use Rattle.irp_names.specs.Majors.{NoneIsNamed, major_rows, major_text};
 ghost use Rattle.irp_names.specs.Rows.{named};
 ghost use Rattle.irp_names.specs.Small.{wide_hex};
 ghost use Rattle.irp_types.specs.Limits.{last_major};
@@ -49,10 +49,14 @@ pub fn major_name(major: u8) -> Option<&'static str>
 }
 
 /// The major function code that has this name. None where none has it.
-pub fn major_named(name: &str) -> Option<u8> {
-    for major in 0..=LAST_MAJOR {
-        if major_name(major) == Some(name) {
-            return Some(major);
+pub fn major_named(name: &str) -> Option<u8>
+    ensures some { IfSome result (λ major. named major_rows major ≡ Some name.now) }
+    ensures none { IfNone result (NoneIsNamed name.now (last_major + 1)) }
+{
+    for major in 0..LAST_MAJOR + 1 {
+        match major_name(major) {
+            Some(other) if other == name => return Some(major),
+            _ => {}
         }
     }
     None

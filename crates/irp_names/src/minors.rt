@@ -1,5 +1,9 @@
 //! Minor function codes (WDK: "Plug and Play Minor IRPs", "Power Management Minor IRPs").
 
+ghost use Rattle.std.specs.Prelude.{◌≡◌, map};
+ghost use Rattle.std.specs.Option.{option_map};
+ghost use Rattle.irp_names.specs.Minors as spec;
+
 /// A minor function code: its major, its number and its name.
 type Minor = (u8, u8, &'static str);
 
@@ -40,18 +44,26 @@ static MINORS: [Minor; 27] = [
 ];
 
 /// Every row. No other function names the table, since a check reads it whole at each that does.
-fn minor_rows() -> &'static [Minor] {
+#[tactic(auto, unfolding(crate::specs::Minors::minor_rows))]
+fn minor_rows() -> &'static [Minor]
+    ensures { map (λ row. (row.0, row.1, row.2.now)) result.now ≡ spec.minor_rows }
+{
     &MINORS
 }
 
-/// The name of the minor function code at a place of the table, from 0. None behind the last.
-pub fn minor_at(place: usize) -> Option<&'static str> {
-    Some(minor_rows().get(place)?.2)
+/// The name at a place of these rows. None behind the last.
+fn name_at(rows: &'static [Minor], place: usize) -> Option<&'static str>
+    ensures { option_map (λ name. name.now) result
+        ≡ spec.name_at place (map (λ row. (row.0, row.1, row.2.now)) rows.now) }
+{
+    Some(rows.get(place)?.2)
 }
 
-/// The minor function code that has this name. None where none has it.
-pub fn minor_named(name: &str) -> Option<u64> {
-    for minor in minor_rows() {
+/// The number of the first of these rows that has this name. None where none has it.
+fn number_of(rows: &[Minor], name: &str) -> Option<u64>
+    ensures { result ≡ spec.number_of name.now (map (λ row. (row.0, row.1, row.2.now)) rows.now) }
+{
+    for minor in rows {
         if minor.2 == name {
             return Some(u64::from(minor.1));
         }
@@ -59,12 +71,36 @@ pub fn minor_named(name: &str) -> Option<u64> {
     None
 }
 
-/// The name of a minor function code of this major. None where there is none.
-pub fn minor_name(major: u8, word: u64) -> Option<&'static str> {
-    for minor in minor_rows() {
-        if minor.0 == major && u64::from(minor.1) == word {
+/// The name of the first of these rows that has this major and this number. None where there is none.
+fn name_of(rows: &'static [Minor], major: u8, number: u64) -> Option<&'static str>
+    ensures { option_map (λ name. name.now) result
+        ≡ spec.name_of major number (map (λ row. (row.0, row.1, row.2.now)) rows.now) }
+{
+    for minor in rows {
+        if minor.0 == major && u64::from(minor.1) == number {
             return Some(minor.2);
         }
     }
     None
+}
+
+/// The name of the minor function code at a place of the table, from 0. None behind the last.
+pub fn minor_at(place: usize) -> Option<&'static str>
+    ensures { option_map (λ name. name.now) result ≡ spec.name_at place spec.minor_rows }
+{
+    name_at(minor_rows(), place)
+}
+
+/// The minor function code that has this name. None where none has it.
+pub fn minor_named(name: &str) -> Option<u64>
+    ensures { result ≡ spec.number_of name.now spec.minor_rows }
+{
+    number_of(minor_rows(), name)
+}
+
+/// The name of a minor function code of this major. None where there is none.
+pub fn minor_name(major: u8, word: u64) -> Option<&'static str>
+    ensures { option_map (λ name. name.now) result ≡ spec.name_of major word spec.minor_rows }
+{
+    name_of(minor_rows(), major, word)
 }

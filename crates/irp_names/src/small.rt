@@ -24,7 +24,7 @@ impl fmt::Display for Hex {
 }
 
 /// These words where a flag is set, and nothing where it isn't.
-pub(crate) fn told_if(flag: bool, words: &'static str) -> &'static str
+pub fn told_if(flag: bool, words: &'static str) -> &'static str
     ensures { result.now ≡ told_if flag words.now }
 {
     if flag { words } else { "" }

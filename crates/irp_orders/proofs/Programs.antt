@@ -30,8 +30,8 @@ use Rattle.irp_orders.specs.declared.asked.Order.{Order}
 use Rattle.irp_orders.specs.declared.ending.Ending.{Ending}
 use Rattle.irp_orders.specs.declared.ending.Ending.TheVariants as ending
 use Rattle.irp_orders.specs.declared.found.Found.{Found}
-use Rattle.irp_orders.specs.declared.input.StreamFault.{StreamFault}
-use Rattle.irp_orders.specs.declared.input.StreamFault.TheVariants as stream
+use Rattle.irp_streams.specs.declared.reading.StreamFault.{StreamFault}
+use Rattle.irp_streams.specs.declared.reading.StreamFault.TheVariants as stream
 
 -- ---- conditions
 

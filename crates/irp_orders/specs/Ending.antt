@@ -8,8 +8,8 @@ use Rattle.irp_machine.specs.declared.limits.NotFound.{NotFound}
 use Rattle.irp_machine.specs.declared.limits.NotFound.TheVariants as found
 use Rattle.irp_machine.specs.declared.limits.NotMade.{NotMade}
 use Rattle.irp_machine.specs.declared.limits.NotMade.TheVariants as made
-use Rattle.irp_orders.specs.declared.input.StreamFault.{StreamFault}
-use Rattle.irp_orders.specs.declared.input.StreamFault.TheVariants as stream
+use Rattle.irp_streams.specs.declared.reading.StreamFault.{StreamFault}
+use Rattle.irp_streams.specs.declared.reading.StreamFault.TheVariants as stream
 use Rattle.irp_script_reader.specs.declared.refusal.ScriptFault.{ScriptFault}
 use Rattle.irp_script_reader.specs.declared.refusal.ScriptFault.TheVariants as script
 use Rattle.irp_orders.specs.declared.ending.Ending.{Ending}

@@ -29,14 +29,15 @@ use crate::examining::explore_and_examine;
 use crate::exploring::founds_of;
 use crate::found::Found;
 use crate::groups::groups_of;
-use crate::input::{TOO_MANY_BYTES, read_up_to};
 use crate::never::{judged, told};
 use crate::table::{Columns, table};
 use irp_listing::send;
 use irp_machine::{paths_can_be_made, replay, replays_end_so};
+use irp_program::TOO_MANY_BYTES;
 use irp_script_reader::{Script, read_script};
+use irp_streams::{Out, read_up_to};
 use irp_transcript::Transcript;
-use irp_transcript_writer::{Cause, Out, write_transcript};
+use irp_transcript_writer::{Cause, write_transcript};
 use std::alloc::Global;
 use std::io::Read;
 

@@ -1,6 +1,4 @@
-//! What the words ask for, and why they may not be taken.
-
-use std::alloc::AllocError;
+//! What the words ask for.
 
 /// What is told of a script's orders (this project's own command line).
 #[derive(Clone, Copy)]
@@ -39,21 +37,4 @@ pub enum Asked<'a> {
         order: Order<'a>,
         file: Option<&'a str>,
     },
-}
-
-/// Why words ask for nothing.
-#[derive(Clone, Copy)]
-pub enum Unasked {
-    /// The words are none that the program takes.
-    Usage,
-    /// `--right` stands beside `--show`, `--never` or `--ends`.
-    NotBesideRight,
-    /// Memory ran out.
-    NoMemory,
-}
-
-impl From<AllocError> for Unasked {
-    fn from(_error: AllocError) -> Unasked {
-        Unasked::NoMemory
-    }
 }

@@ -1,39 +1,16 @@
 //! How the program ends.
 
 ghost use Rattle.std.specs.Prelude.{◌≡◌};
-ghost use Rattle.std.specs.Process.{exit_status};
 ghost use Rattle.irp_orders.specs.Ending.{has_line, status_of};
 
-use crate::asked::Unasked;
-use crate::input::StreamFault;
 use irp_condition::{ConditionFault, Unread};
 use irp_listing::Unwritten;
 use irp_machine::{NotFound, NotMade};
+use irp_program::{NoOpen, Unasked, Unopened};
 use irp_script_reader::{ScriptFault, ScriptRefusal};
+use irp_streams::StreamFault;
 use std::alloc::{AllocError, AllocFailed};
 use std::fmt;
-use std::process::ExitCode;
-
-/// Why a file can't be opened.
-#[derive(Clone, Copy)]
-pub enum NoOpen {
-    /// There is none of this name.
-    Missing,
-    /// It may not be read.
-    Denied,
-    /// Any other reason.
-    Other,
-}
-
-impl fmt::Display for NoOpen {
-    fn fmt<W: fmt::Write>(&self, f: &mut fmt::Formatter<W>) -> fmt::Result {
-        f.write_str(match self {
-            NoOpen::Missing => "there is no such file",
-            NoOpen::Denied => "it may not be read",
-            NoOpen::Other => "the system refuses it",
-        })
-    }
-}
 
 /// How the program ends: its exit status, and the line for standard error (this project's own command line).
 #[derive(Drop)]
@@ -86,13 +63,6 @@ impl Ending {
             | Ending::NoOutcome(_) => 4,
             Ending::NoFile { .. } | Ending::Failed => 5,
         }
-    }
-
-    /// The exit status, as a process ends with it.
-    pub fn code(&self) -> ExitCode
-        ensures { exit_status result ≡ status_of self.now }
-    {
-        ExitCode::from(self.status())
     }
 
     /// Whether there is a line for standard error.
@@ -154,8 +124,16 @@ impl From<Unasked> for Ending {
     fn from(given: Unasked) -> Ending {
         match given {
             Unasked::Usage => Ending::OtherWords,
-            Unasked::NotBesideRight => Ending::NotBesideRight,
             Unasked::NoMemory => Ending::NoMemory,
+        }
+    }
+}
+
+impl From<Unopened> for Ending {
+    fn from(given: Unopened) -> Ending {
+        match given {
+            Unopened::NoFile { name, reason } => Ending::NoFile { name, reason },
+            Unopened::NoMemory => Ending::NoMemory,
         }
     }
 }

@@ -2,7 +2,7 @@
 
 use crate::ending::Ending;
 use irp_listing::send;
-use irp_transcript_writer::Out;
+use irp_streams::Out;
 
 /// What the help says.
 const HELP: &str = "\

@@ -6,9 +6,9 @@ ghost use Rattle.irp_orders.specs.Program.{ExploresWords, IsFaulty, IsGivenUp, I
 use crate::answering::read_and_answer;
 use crate::asked::Order;
 use crate::ending::Ending;
-use crate::input::{TOO_MANY_BYTES, read_up_to};
 use irp_grammar::{Told, Untold, fault_lines, json, read_lines};
-use irp_transcript_writer::Out;
+use irp_program::TOO_MANY_BYTES;
+use irp_streams::{Out, read_up_to};
 use std::alloc::Global;
 use std::io::Read;
 

@@ -16,7 +16,6 @@ mod groups;
 mod help;
 mod in_order;
 mod in_words;
-mod input;
 mod names;
 mod never;
 mod right;
@@ -27,28 +26,13 @@ mod words;
 mod wrongs;
 
 use crate::answering::explore;
-use crate::asked::{Asked, Order, Unasked};
-use crate::ending::{Ending, NoOpen};
+use crate::asked::{Asked, Order};
+use crate::ending::Ending;
 use crate::in_words::explore_words;
-use irp_transcript_writer::{Out, WriterOut};
-use std::alloc::Global;
-use std::env;
-use std::fs::File;
-use std::io::{self, Write};
+use irp_program::{open_input, stop, words_of};
+use irp_streams::{Out, WriterOut};
+use std::io;
 use std::process::ExitCode;
-
-/// How the program ends where the file of this name can't be opened.
-fn no_file(alloc: Global, name: &str, kind: io::ErrorKind) -> Ending {
-    let reason = match kind {
-        io::ErrorKind::NotFound => NoOpen::Missing,
-        io::ErrorKind::PermissionDenied => NoOpen::Denied,
-        _ => NoOpen::Other,
-    };
-    match name.to_string(alloc) {
-        Ok(name) => Ending::NoFile { name, reason },
-        Err(_) => Ending::NoMemory,
-    }
-}
 
 /// Tells what is asked of the script in the file, or in standard input.
 fn explore_in<O: Out>(
@@ -57,28 +41,16 @@ fn explore_in<O: Out>(
     order: &Order<'_>,
     file: Option<&str>,
 ) -> Ending {
-    let Some(name) = file else {
-        let mut input = rt.stdin();
-        return explore(rt.alloc(), &mut input, output, order);
+    let mut input = match open_input(rt, file) {
+        Ok(input) => input,
+        Err(unopened) => return Ending::from(unopened),
     };
-    match File::open(rt, name) {
-        Ok(mut file) if name.ends_with(".words") => {
-            explore_words(rt.alloc(), &mut file, output, order)
+    match file {
+        Some(name) if name.ends_with(".words") => {
+            explore_words(rt.alloc(), &mut input, output, order)
         }
-        Ok(mut file) => explore(rt.alloc(), &mut file, output, order),
-        Err(error) => no_file(rt.alloc(), name, error.kind()),
+        _ => explore(rt.alloc(), &mut input, output, order),
     }
-}
-
-/// The words that the program was given. `Usage` where they can't be had, and `NoMemory` where memory was missing for
-/// them.
-fn words_of(rt: &HostRuntime) -> Result<Vec<String>, Unasked> {
-    let words = match env::args(rt) {
-        Ok(words) => words,
-        Err(error) if error.kind() == io::ErrorKind::OutOfMemory => return Err(Unasked::NoMemory),
-        Err(_) => return Err(Unasked::Usage),
-    };
-    Ok(words.collect(rt.alloc())?)
 }
 
 /// Does what the words ask for.
@@ -90,15 +62,12 @@ fn obey<O: Out>(rt: &HostRuntime, output: &mut O) -> Ending {
     match words::asked(rt.alloc(), words.as_slice()) {
         Ok(Asked::Help) => help::help(output),
         Ok(Asked::Explore { order, file }) => explore_in(rt, output, &order, file),
-        Err(unasked) => Ending::from(unasked),
+        Err(ending) => ending,
     }
 }
 
 fn main(rt: HostRuntime) -> ExitCode {
     let mut output = WriterOut::new(io::writer(&rt));
-    let mut ending = obey(&rt, &mut output);
-    if ending.has_line() && writeln!(rt.stderr(), "{ending}").is_err() {
-        ending = Ending::Failed;
-    }
-    ending.code()
+    let ending = obey(&rt, &mut output);
+    stop(&rt, ending.status(), ending.has_line(), &ending)
 }

@@ -1,8 +1,10 @@
 //! What the command line asks for.
 
-use crate::asked::{Asked, Order, Task, Unasked};
+use crate::asked::{Asked, Order, Task};
+use crate::ending::Ending;
 use clap::error::ErrorKind;
 use clap::{Arg, ArgAction, ArgMatches, Command, Error, value_parser};
+use irp_program::Unasked;
 use std::alloc::{AllocError, Global};
 use std::convert::AsStr;
 
@@ -51,10 +53,10 @@ fn task_of<'a>(matches: &ArgMatches<'a>) -> Result<Task<'a>, Unasked> {
 }
 
 /// What is to be told where the words ask whether every order is right: that alone.
-fn right_of<'a>(task: Task<'a>, by_ends: bool) -> Result<Task<'a>, Unasked> {
+fn right_of<'a>(task: Task<'a>, by_ends: bool) -> Result<Task<'a>, Ending> {
     match task {
         Task::Table if !by_ends => Ok(Task::Right),
-        _ => Err(Unasked::NotBesideRight),
+        _ => Err(Ending::NotBesideRight),
     }
 }
 
@@ -67,7 +69,7 @@ fn number_of(matches: &ArgMatches<'_>, name: &str, missing: usize) -> usize {
 }
 
 /// What clap's matches ask for.
-fn asked_of<'a>(matches: &ArgMatches<'a>) -> Result<Asked<'a>, Unasked> {
+fn asked_of<'a>(matches: &ArgMatches<'a>) -> Result<Asked<'a>, Ending> {
     let by_ends = matches.get_flag("ends");
     let mut task = task_of(matches)?;
     if matches.get_flag("right") {
@@ -99,11 +101,12 @@ fn asked_by<'a>(error: &Error) -> Result<Asked<'a>, Unasked> {
 ///
 /// # Errors
 ///
-/// `Usage` for words that the program doesn't take; `NoMemory` where memory ran out.
-pub fn asked<'a, S: AsStr>(alloc: Global, words: &'a [S]) -> Result<Asked<'a>, Unasked> {
+/// `OtherWords` for words that the program doesn't take, `NotBesideRight` for `--right` beside `--show`, `--never` or
+/// `--ends`; `NoMemory` where memory ran out.
+pub fn asked<'a, S: AsStr>(alloc: Global, words: &'a [S]) -> Result<Asked<'a>, Ending> {
     let command = command(alloc)?;
     match command.try_get_matches_from(words) {
         Ok(matches) => asked_of(&matches),
-        Err(error) => asked_by(&error),
+        Err(error) => Ok(asked_by(&error)?),
     }
 }

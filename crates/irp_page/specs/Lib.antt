@@ -5,4 +5,5 @@ pub mod Escaping
 pub mod Nesting
 pub mod Pages
 pub mod Pieces
+pub mod Sinks
 pub mod Tags

@@ -122,13 +122,15 @@ pub fn wrong_at<'a>(deck: &Deck<'a>, place: u64) -> Option<&'a Wrong>
 /// error is want of memory.
 pub fn card(deck: &Deck, picked: &Picked, wrong: Option<&Wrong>) -> Result<Markup, AllocError> {
     let Picked { place, life, entry } = picked;
-    let place = *place;
-    let mut markup = Markup::new(deck.alloc);
-    put_head(&mut markup, place, entry, deck.tells_seats);
     let rows = rows_of(deck.alloc, deck.made, *life, entry)?;
+    let mut markup = Markup::new(deck.alloc);
+    put_head(&mut markup, *place, entry, deck.tells_seats);
     let scene = Scene {
         entry,
-        scope: Scope { place, made: false },
+        scope: Scope {
+            place: *place,
+            made: false,
+        },
         wrong: match wrong {
             Some(wrong) => wrong_step(wrong.difference),
             None => None,

@@ -7,9 +7,8 @@ use crate::markup::Markup;
 use crate::tag::Tag;
 use irp_listing::{Outcome, moves, outcome_of};
 use irp_names::{DeviceWords, MajorWords, PacketWords, StatusWords, call_name, refusal_name};
-use irp_types::{Asked, Call, Entry, IrpRef, Party, Plan, Reply};
+use irp_types::{Asked, Call, DeviceId, Entry, IrpRef, Party, Plan, Refusal, Reply};
 use std::alloc::{AllocError, Global};
-use std::fmt;
 
 /// As many packets as are listed.
 const MOST_PACKETS: usize = 200;
@@ -61,73 +60,106 @@ fn chip_of(entry: &Entry) -> Option<Chip> {
     }
 }
 
-/// What stands in the chip of an entry.
-#[derive(Clone, Copy)]
-struct ChipWords<'a>(&'a Entry);
+/// Puts that a call was refused, and how.
+fn put_refused(markup: &mut Markup, call: Call, refusal: Refusal) {
+    markup.fixed(call_name(call));
+    markup.fixed(" refused: ");
+    markup.fixed(refusal_name(refusal));
+}
 
-impl fmt::Display for ChipWords<'_> {
-    fn fmt<W: fmt::Write>(&self, f: &mut fmt::Formatter<W>) -> fmt::Result {
-        let entry = self.0;
-        if let Reply::Refused(refusal) = entry.reply {
-            let name = call_name(entry.call);
-            return write!(f, "{} refused: {}", name, refusal_name(refusal));
+/// Puts how a call moved its packet, up to the first question.
+fn put_start(markup: &mut Markup, call: Call) {
+    match call {
+        Call::CallDriver { target, .. } => {
+            markup.fixed("sent to D");
+            markup.show(target.0);
         }
-        if moves(entry) {
-            return write!(f, "{}", MoveWords(entry));
-        }
-        match entry.call {
-            Call::Allocate { size: 1 } => f.write_str("allocated, 1 location"),
-            Call::Allocate { size } => write!(f, "allocated, {} locations", size),
-            Call::Reuse { .. } => f.write_str("a new use"),
-            Call::Free { .. } => f.write_str("freed"),
-            Call::Cancel { .. } => f.write_str("cancelled: flag set, no routine"),
-            Call::SetNext { major, .. } => write!(f, "{}", MajorWords(major)),
-            _ => Ok(()),
-        }
+        Call::Complete { party, .. } => match party {
+            Party::Device(device) => {
+                markup.fixed("D");
+                markup.show(device.0);
+                markup.fixed(" completes it");
+            }
+            Party::Originator => markup.fixed("the originator completes it"),
+        },
+        Call::FinishTaken { .. } => markup.fixed("finished by its token"),
+        _ => markup.fixed("cancelled"),
     }
 }
 
-/// How an entry moved its packet, and where it is then.
-#[derive(Clone, Copy)]
-struct MoveWords<'a>(&'a Entry);
-
-impl fmt::Display for MoveWords<'_> {
-    fn fmt<W: fmt::Write>(&self, f: &mut fmt::Formatter<W>) -> fmt::Result {
-        match self.0.call {
-            Call::CallDriver { target, .. } => write!(f, "sent to D{}", target.0)?,
-            Call::Complete { party, .. } => match party {
-                Party::Device(device) => write!(f, "D{} completes it", device.0)?,
-                Party::Originator => f.write_str("the originator completes it")?,
-            },
-            Call::FinishTaken { .. } => f.write_str("finished by its token")?,
-            _ => f.write_str("cancelled")?,
+/// Puts that a dispatch marked the packet pending and sent it on; of another question nothing.
+fn put_pend(markup: &mut Markup, question: Asked) {
+    match question {
+        Asked::Dispatch {
+            shown,
+            plan: Plan::ForwardPend { .. },
+            ..
+        } => {
+            markup.fixed(", ");
+            markup.show(DeviceWords(shown.device));
+            markup.fixed(" pends it");
         }
-        for question in self.0.asked.as_slice() {
-            write!(f, "{}", PendWords(*question))?;
-        }
-        match outcome_of(self.0) {
-            Outcome::Held(device) => write!(f, ": {} pends and holds it", DeviceWords(device)),
-            Outcome::Kept(device, ..) => write!(f, ": {} keeps it", DeviceWords(device)),
-            Outcome::Completed(status, _) => write!(f, ": completed, {}", StatusWords(status)),
-            Outcome::Stays => f.write_str(": left with its device"),
-        }
+        _ => {}
     }
 }
 
-/// That a dispatch marked the packet pending and sent it on; of another question nothing.
-#[derive(Clone, Copy)]
-struct PendWords(Asked);
+/// Puts which dispatches marked the packet pending and sent it on.
+fn put_pends(markup: &mut Markup, questions: &[Asked]) {
+    for question in questions {
+        put_pend(markup, *question);
+    }
+}
 
-impl fmt::Display for PendWords {
-    fn fmt<W: fmt::Write>(&self, f: &mut fmt::Formatter<W>) -> fmt::Result {
-        match self.0 {
-            Asked::Dispatch {
-                shown,
-                plan: Plan::ForwardPend { .. },
-                ..
-            } => write!(f, ", {} pends it", DeviceWords(shown.device)),
-            _ => Ok(()),
+/// Puts where the packet is then.
+fn put_settled(markup: &mut Markup, outcome: Outcome) {
+    match outcome {
+        Outcome::Held(device) => put_with(markup, device, " pends and holds it"),
+        Outcome::Kept(device, ..) => put_with(markup, device, " keeps it"),
+        Outcome::Completed(status, _) => {
+            markup.fixed(": completed, ");
+            markup.show(StatusWords(status));
         }
+        Outcome::Stays => markup.fixed(": left with its device"),
+    }
+}
+
+/// Puts a device, or the originator, and what it does.
+fn put_with(markup: &mut Markup, device: Option<DeviceId>, does: &'static str) {
+    markup.fixed(": ");
+    markup.show(DeviceWords(device));
+    markup.fixed(does);
+}
+
+/// Puts what a call did that moved no packet; nothing where its packet's way isn't changed.
+fn put_plain(markup: &mut Markup, call: Call) {
+    match call {
+        Call::Allocate { size: 1 } => markup.fixed("allocated, 1 location"),
+        Call::Allocate { size } => {
+            markup.fixed("allocated, ");
+            markup.show(size);
+            markup.fixed(" locations");
+        }
+        Call::Reuse { .. } => markup.fixed("a new use"),
+        Call::Free { .. } => markup.fixed("freed"),
+        Call::Cancel { .. } => markup.fixed("cancelled: flag set, no routine"),
+        Call::SetNext { major, .. } => markup.show(MajorWords(major)),
+        _ => {}
+    }
+}
+
+/// Puts how an entry moved its packet, and where it is then.
+fn put_move(markup: &mut Markup, entry: &Entry) {
+    put_start(markup, entry.call);
+    put_pends(markup, entry.asked.as_slice());
+    put_settled(markup, outcome_of(entry));
+}
+
+/// Puts what stands in the chip of an entry.
+fn put_words(markup: &mut Markup, entry: &Entry) {
+    match entry.reply {
+        Reply::Refused(refusal) => put_refused(markup, entry.call, refusal),
+        _ if moves(entry) => put_move(markup, entry),
+        _ => put_plain(markup, entry.call),
     }
 }
 
@@ -141,9 +173,8 @@ fn is_known(uses: &[IrpRef], irp: IrpRef) -> bool {
     false
 }
 
-/// The uses that these entries are about, each once, in order. The one error is want of memory.
-fn uses_of(alloc: Global, cards: &[Picked]) -> Result<Vec<IrpRef>, AllocError> {
-    let mut uses = Vec::new(alloc);
+/// Puts the uses that these entries are about behind those that stand there, each once. The one error is want of memory.
+fn put_new(uses: &mut Vec<IrpRef>, cards: &[Picked]) -> Result<(), AllocError> {
     for picked in cards {
         if let Some(irp) = use_of(&picked.entry)
             && !is_known(uses.as_slice(), irp)
@@ -151,6 +182,13 @@ fn uses_of(alloc: Global, cards: &[Picked]) -> Result<Vec<IrpRef>, AllocError> {
             uses.push(irp)?;
         }
     }
+    Ok(())
+}
+
+/// The uses that these entries are about, each once, in order. The one error is want of memory.
+pub fn uses_of(alloc: Global, cards: &[Picked]) -> Result<Vec<IrpRef>, AllocError> {
+    let mut uses = Vec::new(alloc);
+    put_new(&mut uses, cards)?;
     Ok(uses)
 }
 
@@ -170,7 +208,7 @@ fn put_chip(markup: &mut Markup, place: u64, entry: &Entry) {
     markup.show(place);
     markup.close();
     markup.fixed(" ");
-    markup.show(ChipWords(entry));
+    put_words(markup, entry);
     markup.close();
 }
 
@@ -196,24 +234,25 @@ fn put_uses(markup: &mut Markup, cards: &[Picked], uses: &[IrpRef]) {
     }
 }
 
-/// Draws a line of chips for each use of a packet that these entries are about, at most 200; nothing where there are
-/// none. The one error is want of memory.
-pub fn put_packets(alloc: Global, markup: &mut Markup, cards: &[Picked]) -> Result<(), AllocError> {
-    let uses = uses_of(alloc, cards)?;
+/// Says how many uses there are, where not all are listed.
+fn put_count(markup: &mut Markup, uses: usize) {
+    markup.open(Tag::P, &[word("class", "because")]);
+    markup.fixed("Only the first 200 uses of packets are listed, of ");
+    markup.show(uses);
+    markup.fixed(".");
+    markup.close();
+}
+
+/// Draws a line of chips for each of the uses that these entries are about, at most 200; nothing where there are none.
+pub fn put_packets(markup: &mut Markup, cards: &[Picked], uses: &[IrpRef]) {
     if uses.is_empty() {
-        return Ok(());
+        return;
     }
     markup.open(Tag::H2, &[]);
     markup.fixed("Packets");
     markup.close();
-    let few = uses.len().min(MOST_PACKETS);
-    put_uses(markup, cards, &uses.as_slice()[..few]);
-    if few < uses.len() {
-        markup.open(Tag::P, &[word("class", "because")]);
-        markup.fixed("Only the first 200 uses of packets are listed, of ");
-        markup.show(uses.len());
-        markup.fixed(".");
-        markup.close();
+    put_uses(markup, cards, &uses[..uses.len().min(MOST_PACKETS)]);
+    if uses.len() > MOST_PACKETS {
+        put_count(markup, uses.len());
     }
-    Ok(())
 }

@@ -37,6 +37,34 @@ fn with_new(alloc: Global, made: &[Made], new: Made) -> Result<Vec<Made>, AllocE
     Ok(next)
 }
 
+/// Puts a device of these. The one error is want of memory.
+fn put_device(next: &mut Vec<Made>, made: &[Made], device: DeviceId) -> Result<(), AllocError> {
+    for each in made {
+        if each.device == device {
+            next.push(*each)?;
+        }
+    }
+    Ok(())
+}
+
+/// Puts these, with a device moved to the place just above another. The one error is want of memory.
+fn put_moved(
+    next: &mut Vec<Made>,
+    made: &[Made],
+    device: DeviceId,
+    below: DeviceId,
+) -> Result<(), AllocError> {
+    for each in made {
+        if each.device == below {
+            put_device(next, made, device)?;
+        }
+        if each.device != device {
+            next.push(*each)?;
+        }
+    }
+    Ok(())
+}
+
 /// These, with a device moved to the place just above another. The one error is want of memory.
 fn with_above(
     alloc: Global,
@@ -44,21 +72,8 @@ fn with_above(
     device: DeviceId,
     below: DeviceId,
 ) -> Result<Vec<Made>, AllocError> {
-    let mut moved = Vec::new(alloc);
-    for each in made {
-        if each.device == device {
-            moved.push(*each)?;
-        }
-    }
     let mut next = Vec::new(alloc);
-    for each in made {
-        if each.device == below {
-            next.extend_from_slice(moved.as_slice())?;
-        }
-        if each.device != device {
-            next.push(*each)?;
-        }
-    }
+    put_moved(&mut next, made, device, below)?;
     Ok(next)
 }
 
@@ -97,6 +112,23 @@ fn put_row(rows: &mut Vec<Option<DeviceId>>, device: Option<DeviceId>) -> Result
     Ok(())
 }
 
+/// Puts the rows of the originator, of the devices that the packet reached before, top first, and of those that it
+/// reaches now. The one error is want of memory.
+fn put_rows(
+    rows: &mut Vec<Option<DeviceId>>,
+    made: &[Made],
+    life: Life,
+    entry: &Entry,
+) -> Result<(), AllocError> {
+    rows.push(None)?;
+    for each in made {
+        if life.has_reached(each.device) || reaches(entry, each.device) {
+            rows.push(Some(each.device))?;
+        }
+    }
+    put_others(rows, entry)
+}
+
 /// The rows of an entry's picture: the originator, the devices that the packet reached before, top first, and those
 /// that it reaches now. The one error is want of memory.
 pub fn rows_of(
@@ -106,13 +138,7 @@ pub fn rows_of(
     entry: &Entry,
 ) -> Result<Vec<Option<DeviceId>>, AllocError> {
     let mut rows = Vec::new(alloc);
-    rows.push(None)?;
-    for each in made {
-        if life.has_reached(each.device) || reaches(entry, each.device) {
-            rows.push(Some(each.device))?;
-        }
-    }
-    put_others(&mut rows, entry)?;
+    put_rows(&mut rows, made, life, entry)?;
     Ok(rows)
 }
 

@@ -8,7 +8,7 @@ ghost use Rattle.irp_page.specs.Drawing.{Draws, DrawsPart};
 
 use crate::page::{Subject, page_of};
 use irp_listing::{Unwritten, send};
-use irp_transcript_writer::Out;
+use irp_streams::Out;
 use std::alloc::Global;
 
 /// Sends the page of a transcript whose entries the draft was given. It marks the entry that the subject says is wrong, if

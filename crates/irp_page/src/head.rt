@@ -1,7 +1,7 @@
 //! The head of a page: its title, what is drawn, the devices and the packets.
 
 use crate::attribute::{Attribute, word};
-use crate::chips::put_packets;
+use crate::chips::{put_packets, uses_of};
 use crate::devices::put_devices;
 use crate::draft::Draft;
 use crate::markup::Markup;
@@ -77,6 +77,14 @@ fn put_extent(markup: &mut Markup, draft: &Draft) {
     markup.close();
 }
 
+/// Opens the list of the cards, below its heading.
+fn put_list(markup: &mut Markup) {
+    put_element(markup, Tag::H2, &[], "Entries");
+    put_element(markup, Tag::P, &[word("class", "because")], LEGEND);
+    markup.open(Tag::Ol, &[word("class", "entries")]);
+    markup.fixed("\n");
+}
+
 /// What stands above the verdict of a page, which has this title.
 pub fn top(alloc: Global, title: &str) -> Markup {
     let mut markup = Markup::new(alloc);
@@ -93,16 +101,15 @@ pub fn top(alloc: Global, title: &str) -> Markup {
 /// What stands between the verdict of a page and its cards, with the list of the cards open. The one error is want of
 /// memory.
 pub fn head(alloc: Global, subject: &Subject) -> Result<Markup, AllocError> {
+    let cards = subject.draft.cards.as_slice();
+    let uses = uses_of(alloc, cards)?;
     let mut markup = Markup::new(alloc);
     put_extent(&mut markup, subject.draft);
     if let Some(header) = subject.header {
         put_devices(&mut markup, header, subject.draft.made.as_slice());
     }
-    put_packets(alloc, &mut markup, subject.draft.cards.as_slice())?;
-    put_element(&mut markup, Tag::H2, &[], "Entries");
-    put_element(&mut markup, Tag::P, &[word("class", "because")], LEGEND);
-    markup.open(Tag::Ol, &[word("class", "entries")]);
-    markup.fixed("\n");
+    put_packets(&mut markup, cards, uses.as_slice());
+    put_list(&mut markup);
     Ok(markup)
 }
 

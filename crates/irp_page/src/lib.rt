@@ -20,6 +20,7 @@ mod picture;
 mod piece;
 mod places;
 mod signs;
+mod sink;
 mod style;
 mod tag;
 mod words;

@@ -8,6 +8,7 @@ ghost use Rattle.irp_page.specs.Pieces.{Puts, PutsNothing, piece_bytes, signs, t
 
 use crate::attribute::Attribute;
 use crate::piece::Piece;
+use crate::sink::{InWords, Sink};
 use crate::tag::Tag;
 use std::alloc::{AllocError, Global};
 use std::fmt;
@@ -135,18 +136,35 @@ impl Markup {
         self.put(Piece::Words(words));
     }
 
+    /// The words of a sink; none where memory ran out, which is remembered.
+    fn taken(&mut self, sink: Sink) -> String
+        ensures { PutsNothing self.old self.new }
+    {
+        match sink.finish() {
+            Ok(words) => words,
+            Err(_) => {
+                self.ran_out = true;
+                String::new(*self.pieces.allocator())
+            }
+        }
+    }
+
     /// What is displayed, as words; none where memory runs out, which is remembered.
     pub fn text<D: fmt::Display + Drop>(&mut self, shown: D) -> String
         ensures { PutsNothing self.old self.new }
     {
-        let alloc = *self.pieces.allocator();
-        match format!(in alloc; "{}", shown) {
-            Ok(words) => words,
-            Err(_) => {
-                self.ran_out = true;
-                String::new(alloc)
-            }
-        }
+        let mut sink = Sink::new(*self.pieces.allocator());
+        sink.show(shown);
+        self.taken(sink)
+    }
+
+    /// What is said in words; none where memory runs out, which is remembered.
+    pub fn said<W: InWords>(&mut self, words: W) -> String
+        ensures { PutsNothing self.old self.new }
+    {
+        let mut sink = Sink::new(*self.pieces.allocator());
+        words.put(&mut sink);
+        self.taken(sink)
     }
 
     /// Puts what is displayed, as words.

@@ -4,8 +4,7 @@ use crate::attribute::{Attribute, word};
 use crate::markup::Markup;
 use crate::picture::{Scene, put_picture};
 use crate::tag::Tag;
-use crate::words::EndWords;
-use irp_listing::{AskedWords, moves, outcome_of};
+use irp_listing::{AskedWords, EndWords, moves, outcome_of};
 use irp_names::AnsweredWords;
 use irp_types::Asked;
 
@@ -45,25 +44,32 @@ fn put_items(markup: &mut Markup, scene: &Scene) {
     markup.close();
 }
 
-/// Draws the picture of a call that moved its packet, and its steps beside it; of another call only the steps, where
-/// there are any.
-pub fn put_moves(markup: &mut Markup, scene: &Scene) {
-    let has_steps = !scene.entry.asked.as_slice().is_empty();
-    if !moves(scene.entry) {
-        if has_steps {
-            put_items(markup, scene);
-        }
-        return;
+/// Draws the list of all steps, where there are any.
+fn put_steps(markup: &mut Markup, scene: &Scene) {
+    if !scene.entry.asked.as_slice().is_empty() {
+        put_items(markup, scene);
     }
+}
+
+/// Draws the picture of a call that moved its packet, its steps beside it, and where the packet is then.
+fn put_move(markup: &mut Markup, scene: &Scene) {
     markup.open(Tag::Div, &[word("class", "move")]);
     put_picture(markup, scene);
     markup.open(Tag::Div, &[]);
-    if has_steps {
-        put_items(markup, scene);
-    }
+    put_steps(markup, scene);
     markup.open(Tag::P, &[word("class", "end")]);
     markup.show(EndWords(outcome_of(scene.entry)));
     markup.close();
     markup.close();
     markup.close();
+}
+
+/// Draws the picture of a call that moved its packet, and its steps beside it; of another call only the steps, where
+/// there are any.
+pub fn put_moves(markup: &mut Markup, scene: &Scene) {
+    if moves(scene.entry) {
+        put_move(markup, scene);
+    } else {
+        put_steps(markup, scene);
+    }
 }

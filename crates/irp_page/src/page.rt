@@ -14,7 +14,7 @@ use crate::head::{head, top};
 use crate::markup::Markup;
 use crate::piece::Piece;
 use crate::tag::Tag;
-use crate::words::put_lines;
+use crate::words::{listed, put_lines, spots_of};
 use crate::writing::Page;
 use crate::wrong::{behind_block, block};
 use irp_judge::Wrong;
@@ -51,9 +51,8 @@ fn put_mark(
     let Some(wrong) = wrong else {
         return Ok(());
     };
-    let inside = block(deck, picked, wrong)?;
     page.tell(&Piece::Mark(wrong.at), Tag::Div)?;
-    page.put(inside)?;
+    page.put(block(deck, picked, wrong)?)?;
     page.close()?;
     page.put(behind_block(deck.alloc))
 }
@@ -63,9 +62,8 @@ fn put_card(page: &mut Page, deck: &Deck, picked: &Picked) -> Result<(), AllocEr
     ensures { OnOk result (Tells (item (option_copied deck.now.wrong) picked.now.place) page.old page.new) }
 {
     let wrong = wrong_at(deck, picked.place);
-    let inside = card(deck, picked, wrong)?;
     page.tell(&Piece::Entry(picked.place), Tag::Li)?;
-    page.put(inside)?;
+    page.put(card(deck, picked, wrong)?)?;
     put_mark(page, deck, picked, wrong)?;
     page.put(only(deck.alloc, "\n"))?;
     page.close()
@@ -119,10 +117,13 @@ fn put_verdict(
 
 /// The part of remove locks and cancel slots; nothing where only one packet is shown. The one error is want of memory.
 fn foot(alloc: Global, draft: &Draft) -> Result<Markup, AllocError> {
-    let mut markup = Markup::new(alloc);
-    if draft.choice.only.is_none() {
-        put_lines(alloc, &mut markup, draft.words.as_slice())?;
+    let lines = draft.words.as_slice();
+    if draft.choice.only.is_some() {
+        return Ok(Markup::new(alloc));
     }
+    let spots = spots_of(alloc, listed(lines))?;
+    let mut markup = Markup::new(alloc);
+    put_lines(&mut markup, lines, spots.as_slice());
     Ok(markup)
 }
 
@@ -143,8 +144,6 @@ pub(crate) fn page_of(alloc: Global, subject: &Subject) -> Result<Vec<u8>, Alloc
         (option_copied subject.now.wrong) entries text.items) }
 {
     let mut page = Page::begin(alloc, top(alloc, subject.title))?;
-    let head = head(alloc, subject)?;
-    let foot = foot(alloc, subject.draft)?;
     let deck = Deck {
         alloc,
         made: subject.draft.made.as_slice(),
@@ -152,9 +151,9 @@ pub(crate) fn page_of(alloc: Global, subject: &Subject) -> Result<Vec<u8>, Alloc
         tells_seats: has_seats(subject.header),
     };
     put_verdict(&mut page, alloc, subject.wrong, subject.draft.entries)?;
-    page.go_on(head)?;
+    page.go_on(head(alloc, subject)?)?;
     put_cards(&mut page, &deck, subject.draft.cards.as_slice())?;
     page.close()?;
-    page.put(foot)?;
+    page.put(foot(alloc, subject.draft)?)?;
     page.finish()
 }

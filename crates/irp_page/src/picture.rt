@@ -99,12 +99,12 @@ fn row_name(markup: &mut Markup, scene: &Scene, row: Option<DeviceId>) {
         let words = markup.text("originator");
         return line(markup, "small", (6, top + 24), room, words);
     };
-    let name = markup.text(Numbered("D", u64::from(device.0), ""));
+    let name = markup.said(Numbered("D", u64::from(device.0), ""));
     match scene.location(row) {
         None => line(markup, "name", (6, top + 24), room, name),
         Some(location) => {
             line(markup, "name", (6, top + 18), room, name);
-            let words = markup.text(Numbered("location ", u64::from(location), ""));
+            let words = markup.said(Numbered("location ", u64::from(location), ""));
             line(markup, "small soft", (6, top + 33), room, words);
         }
     }
@@ -166,9 +166,9 @@ fn start_by_party(markup: &mut Markup, scene: &Scene, party: Party) -> Trail {
             ..
         } => {
             frame.error = !status.is_success();
-            markup.text(ShortResult(status, information))
+            markup.said(ShortResult(status, information))
         }
-        Call::CallDriver { target, .. } => markup.text(Numbered("to D", u64::from(target.0), "")),
+        Call::CallDriver { target, .. } => markup.said(Numbered("to D", u64::from(target.0), "")),
         _ => markup.text(""),
     };
     let title = markup.text(scene.title());
@@ -179,7 +179,7 @@ fn start_by_party(markup: &mut Markup, scene: &Scene, party: Party) -> Trail {
 /// Draws the call of a seat that is no party: a cancellation, or the end of a packet that was taken from its cancel
 /// slot.
 fn start_by_seat(markup: &mut Markup, scene: &Scene) -> Trail {
-    let seat = markup.text(Numbered("seat ", u64::from(scene.entry.seat), ""));
+    let seat = markup.said(Numbered("seat ", u64::from(scene.entry.seat), ""));
     line(markup, "small", (6, 31), (72, 12), seat);
     let frame = plain_frame(scene, top_of(0));
     let title = markup.text(scene.title());
@@ -191,7 +191,7 @@ fn start_by_seat(markup: &mut Markup, scene: &Scene) -> Trail {
         ..
     } = scene.entry.call
     {
-        let first = markup.text(Numbered("token ", token, ""));
+        let first = markup.said(Numbered("token ", token, ""));
         let second = markup.text("out of its cancel slot");
         draw_box(markup, frame, title, first, second);
         return finish_taken(markup, scene, trail, status, information);
@@ -218,7 +218,7 @@ fn finish_taken(
     arrow_down(markup, trail, frame.y);
     let title = markup.text(scene.title());
     let first = markup.text("IoCompleteRequest");
-    let second = markup.text(ShortResult(status, information));
+    let second = markup.said(ShortResult(status, information));
     draw_box(markup, frame, title, first, second);
     down_from(frame)
 }
@@ -247,9 +247,9 @@ fn put_step(
         number,
         link: scene.scope.step_link(number),
     };
-    let title = markup.text(StepWords(question));
-    let first = markup.text(FirstLine(question));
-    let second = markup.text(SecondLine(question));
+    let title = markup.said(StepWords(question));
+    let first = markup.said(FirstLine(question));
+    let second = markup.said(SecondLine(question));
     draw_box(markup, frame, title, first, second);
     Trail { top, up }
 }
@@ -277,9 +277,9 @@ fn put_completed(
     frame.error = !status.is_success();
     frame.class = if frame.error { "bad" } else { "good" };
     let result = ShortResult(status, information);
-    let title = markup.text(CompletedWords(result));
+    let title = markup.said(CompletedWords(result));
     let first = markup.text("completed");
-    let second = markup.text(result);
+    let second = markup.said(result);
     draw_box(markup, frame, title, first, second);
 }
 
@@ -291,7 +291,7 @@ fn put_end(markup: &mut Markup, scene: &Scene, trail: Trail) {
         }
         Outcome::Held(Some(device)) => {
             let (x, y) = (u64::from(RIGHT) + 6, u64::from(scene.top(Some(device))));
-            let words = markup.text(Numbered("D", u64::from(device.0), " holds the packet,"));
+            let words = markup.said(Numbered("D", u64::from(device.0), " holds the packet,"));
             line(markup, "small", (x, y + 18), (136, 26), words);
             let words = markup.text("marked pending");
             line(markup, "small", (x, y + 33), (136, 26), words);

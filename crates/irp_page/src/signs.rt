@@ -1,19 +1,14 @@
 //! What stands in the boxes of a picture: two short lines, and a class of style.
 
+use crate::sink::{InWords, Sink};
 use irp_names::{RoutineWords, status_name};
-use irp_types::{Answer, Asked, CancelAnswer, Plan, Setting, Shown, Status};
-use std::fmt;
+use irp_types::{Answer, Asked, CancelAnswer, CancelId, Plan, Setting, Shown, Status};
 
-/// A status by its name without the prefix, as SUCCESS, or in hexadecimal.
-#[derive(Clone, Copy)]
-pub struct ShortStatus(pub Status);
-
-impl fmt::Display for ShortStatus {
-    fn fmt<W: fmt::Write>(&self, f: &mut fmt::Formatter<W>) -> fmt::Result {
-        match status_name(self.0) {
-            Some(name) => f.write_str(name.strip_prefix("STATUS_").unwrap_or(name)),
-            None => write!(f, "{:#010X}", self.0.0),
-        }
+/// Puts a status by its name without the prefix, as SUCCESS, or in hexadecimal.
+fn put_status(out: &mut Sink, status: Status) {
+    match status_name(status) {
+        Some(name) => out.put(name.strip_prefix("STATUS_").unwrap_or(name)),
+        None => out.show(format_args!("{:#010X}", status.0)),
     }
 }
 
@@ -21,13 +16,12 @@ impl fmt::Display for ShortStatus {
 #[derive(Clone, Copy)]
 pub struct ShortResult(pub Status, pub u64);
 
-impl fmt::Display for ShortResult {
-    fn fmt<W: fmt::Write>(&self, f: &mut fmt::Formatter<W>) -> fmt::Result {
-        write!(f, "{}", ShortStatus(self.0))?;
+impl InWords for ShortResult {
+    fn put(self, out: &mut Sink) {
+        put_status(out, self.0);
         if self.1 != 0 {
-            write!(f, ", {:#x}", self.1)?;
+            out.show(format_args!(", {:#x}", self.1));
         }
-        Ok(())
     }
 }
 
@@ -35,9 +29,10 @@ impl fmt::Display for ShortResult {
 #[derive(Clone, Copy)]
 pub struct CompletedWords(pub ShortResult);
 
-impl fmt::Display for CompletedWords {
-    fn fmt<W: fmt::Write>(&self, f: &mut fmt::Formatter<W>) -> fmt::Result {
-        write!(f, "completed: {}", self.0)
+impl InWords for CompletedWords {
+    fn put(self, out: &mut Sink) {
+        out.put("completed: ");
+        self.0.put(out);
     }
 }
 
@@ -45,9 +40,11 @@ impl fmt::Display for CompletedWords {
 #[derive(Clone, Copy)]
 pub struct Numbered(pub &'static str, pub u64, pub &'static str);
 
-impl fmt::Display for Numbered {
-    fn fmt<W: fmt::Write>(&self, f: &mut fmt::Formatter<W>) -> fmt::Result {
-        write!(f, "{}{}{}", self.0, self.1, self.2)
+impl InWords for Numbered {
+    fn put(self, out: &mut Sink) {
+        out.put(self.0);
+        out.number(self.1);
+        out.put(self.2);
     }
 }
 
@@ -55,17 +52,23 @@ impl fmt::Display for Numbered {
 #[derive(Clone, Copy)]
 pub struct FirstLine(pub Asked);
 
-impl fmt::Display for FirstLine {
-    fn fmt<W: fmt::Write>(&self, f: &mut fmt::Formatter<W>) -> fmt::Result {
+impl InWords for FirstLine {
+    fn put(self, out: &mut Sink) {
         match self.0 {
-            Asked::Dispatch { plan, .. } => f.write_str(plan_words(plan)),
+            Asked::Dispatch { plan, .. } => out.put(plan_words(plan)),
             Asked::Completion { id, answer, .. } => {
-                let did = if answer.keep { "keep" } else { "go on" };
-                write!(f, "{}: {}", RoutineWords(id), did)
+                out.show(RoutineWords(id));
+                out.put(if answer.keep { ": keep" } else { ": go on" });
             }
-            Asked::Cancel { id, .. } => write!(f, "cancel routine {}", id.0),
+            Asked::Cancel { id, .. } => put_cancel(out, id),
         }
     }
+}
+
+/// Puts a cancel routine.
+fn put_cancel(out: &mut Sink, id: CancelId) {
+    out.put("cancel routine ");
+    out.number(u64::from(id.0));
 }
 
 /// What a dispatch did, in a few words.
@@ -83,93 +86,71 @@ fn plan_words(plan: Plan) -> &'static str {
 #[derive(Clone, Copy)]
 pub struct SecondLine(pub Asked);
 
-impl fmt::Display for SecondLine {
-    fn fmt<W: fmt::Write>(&self, f: &mut fmt::Formatter<W>) -> fmt::Result {
+impl InWords for SecondLine {
+    fn put(self, out: &mut Sink) {
         match self.0 {
-            Asked::Dispatch { plan, .. } => write!(f, "{}", PlanLine(plan)),
-            Asked::Completion { shown, answer, .. } => {
-                write!(f, "{}", AnswerLine { shown, answer })
-            }
+            Asked::Dispatch { plan, .. } => put_plan(out, plan),
+            Asked::Completion { shown, answer, .. } => put_answer(out, shown, answer),
             Asked::Cancel { answer, .. } => match answer {
                 CancelAnswer::Finish { information } => {
-                    write!(f, "{}", ShortResult(Status::CANCELLED, information))
+                    ShortResult(Status::CANCELLED, information).put(out)
                 }
-                CancelAnswer::Leave => f.write_str("leaves it"),
+                CancelAnswer::Leave => out.put("leaves it"),
             },
         }
     }
 }
 
-/// The second line for a dispatch.
-#[derive(Clone, Copy)]
-struct PlanLine(Plan);
-
-impl fmt::Display for PlanLine {
-    fn fmt<W: fmt::Write>(&self, f: &mut fmt::Formatter<W>) -> fmt::Result {
-        match self.0 {
-            Plan::Finish {
-                status,
-                information,
-            } => write!(f, "{}", ShortResult(status, information)),
-            Plan::Hold { cancel: Some(id) } => write!(f, "cancel routine {}", id.0),
-            Plan::Hold { cancel: None } => Ok(()),
-            Plan::HoldSlot => f.write_str("for a cancel slot"),
-            Plan::Skip => f.write_str("same location"),
-            Plan::Forward { set } | Plan::ForwardPend { set } => match set {
-                Some(setting) => write!(f, "{}", SettingLine(setting)),
-                None => Ok(()),
-            },
+/// Puts the second line for a dispatch.
+fn put_plan(out: &mut Sink, plan: Plan) {
+    match plan {
+        Plan::Finish {
+            status,
+            information,
+        } => ShortResult(status, information).put(out),
+        Plan::Hold { cancel: Some(id) } => put_cancel(out, id),
+        Plan::HoldSlot => out.put("for a cancel slot"),
+        Plan::Skip => out.put("same location"),
+        Plan::Forward { set: Some(setting) } | Plan::ForwardPend { set: Some(setting) } => {
+            put_setting(out, setting)
         }
+        _ => {}
     }
 }
 
-/// A routine that is set, with letters for its flags: on success, on error, on cancel.
-#[derive(Clone, Copy)]
-struct SettingLine(Setting);
-
-impl fmt::Display for SettingLine {
-    fn fmt<W: fmt::Write>(&self, f: &mut fmt::Formatter<W>) -> fmt::Result {
-        write!(f, "sets {} (", RoutineWords(self.0.routine))?;
-        let Setting {
-            on_success,
-            on_error,
-            on_cancel,
-            ..
-        } = self.0;
-        if !on_success && !on_error && !on_cancel {
-            f.write_str("never")?;
-        }
-        f.write_str(if on_success { "s" } else { "" })?;
-        f.write_str(if on_error { "e" } else { "" })?;
-        f.write_str(if on_cancel { "c)" } else { ")" })
+/// Letters for the flags of a routine that is set.
+fn flags_line(setting: Setting) -> &'static str {
+    match (setting.on_success, setting.on_error, setting.on_cancel) {
+        (false, false, false) => " (never)",
+        (true, false, false) => " (s)",
+        (false, true, false) => " (e)",
+        (false, false, true) => " (c)",
+        (true, true, false) => " (se)",
+        (true, false, true) => " (sc)",
+        (false, true, true) => " (ec)",
+        (true, true, true) => " (sec)",
     }
 }
 
-/// The second line for a completion routine.
-#[derive(Clone, Copy)]
-struct AnswerLine {
-    shown: Shown,
-    answer: Answer,
+/// Puts a routine that is set, with letters for its flags: on success, on error, on cancel.
+fn put_setting(out: &mut Sink, setting: Setting) {
+    out.put("sets ");
+    out.show(RoutineWords(setting.routine));
+    out.put(flags_line(setting));
 }
 
-impl fmt::Display for AnswerLine {
-    fn fmt<W: fmt::Write>(&self, f: &mut fmt::Formatter<W>) -> fmt::Result {
-        let AnswerLine { shown, answer } = *self;
-        match answer.replacement {
-            Some(put) => {
-                write!(
-                    f,
-                    "{} to {}",
-                    ShortStatus(shown.status),
-                    ShortStatus(put.status)
-                )?;
-            }
-            None => write!(f, "{}", ShortResult(shown.status, shown.information))?,
+/// Puts the second line for a completion routine.
+fn put_answer(out: &mut Sink, shown: Shown, answer: Answer) {
+    match answer.replacement {
+        Some(put) => {
+            put_status(out, shown.status);
+            out.put(" to ");
+            put_status(out, put.status);
         }
-        if shown.pending_returned {
-            f.write_str(if answer.mark { ", marks" } else { ", pended" })?;
-        }
-        Ok(())
+        None => ShortResult(shown.status, shown.information).put(out),
+    }
+    if shown.pending_returned {
+        out.put(if answer.mark { ", marks" } else { ", pended" });
     }
 }
 

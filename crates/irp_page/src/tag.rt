@@ -4,7 +4,7 @@ ghost use Rattle.std.specs.Prelude.{◌≡◌};
 ghost use Rattle.irp_page.specs.Tags.{tag_name};
 
 /// An element of HTML or SVG, by its tag (source: the HTML standard, "The elements of HTML"; SVG 2).
-#[derive(Clone, Copy, PartialEq, Eq, Debug)]
+#[derive(Clone, Copy)]
 pub enum Tag {
     Html,
     Head,

@@ -2,13 +2,13 @@
 
 use crate::attribute::word;
 use crate::markup::Markup;
+use crate::sink::{InWords, Sink};
 use crate::tag::Tag;
-use irp_listing::{AskedWords, Outcome, WordLineWords};
-use irp_names::{AnsweredWords, DeviceWords, ResultWords};
+use irp_listing::{AskedWords, WordLineWords};
+use irp_names::AnsweredWords;
 use irp_transcript::{Act, WordLine};
 use irp_types::{Asked, LockAct, SlotAct};
 use std::alloc::{AllocError, Global};
-use std::fmt;
 
 /// As many steps on locks and slots as are listed.
 pub const MOST_LINES: usize = 2_000;
@@ -17,46 +17,29 @@ pub const MOST_LINES: usize = 2_000;
 #[derive(Clone, Copy)]
 pub struct StepWords(pub Asked);
 
-impl fmt::Display for StepWords {
-    fn fmt<W: fmt::Write>(&self, f: &mut fmt::Formatter<W>) -> fmt::Result {
-        write!(f, "{}. Then: {}", AskedWords(self.0), AnsweredWords(self.0))
-    }
-}
-
-/// Where a packet is after a call that moved it.
-#[derive(Clone, Copy)]
-pub struct EndWords(pub Outcome);
-
-impl fmt::Display for EndWords {
-    fn fmt<W: fmt::Write>(&self, f: &mut fmt::Formatter<W>) -> fmt::Result {
-        match self.0 {
-            Outcome::Held(device) => write!(f, "{} holds the packet", DeviceWords(device)),
-            Outcome::Kept(device, status, information) => {
-                write!(f, "{} has the packet again", DeviceWords(device))?;
-                write!(f, ": {}", ResultWords(status, information))
-            }
-            Outcome::Stays => f.write_str("the packet stays with its device"),
-            Outcome::Completed(status, information) => {
-                write!(f, "completed: {}", ResultWords(status, information))
-            }
-        }
+impl InWords for StepWords {
+    fn put(self, out: &mut Sink) {
+        out.show(AskedWords(self.0));
+        out.put(". Then: ");
+        out.show(AnsweredWords(self.0));
     }
 }
 
 /// What a step was on.
 #[derive(Clone, Copy, PartialEq, Eq)]
-enum Spot {
+pub enum Spot {
     Lock(u32),
     Slot(u32),
 }
 
-impl fmt::Display for Spot {
-    fn fmt<W: fmt::Write>(&self, f: &mut fmt::Formatter<W>) -> fmt::Result {
-        match *self {
-            Spot::Lock(number) => write!(f, "Remove lock {}", number),
-            Spot::Slot(number) => write!(f, "Cancel slot {}", number),
-        }
-    }
+/// Puts what a step was on.
+fn put_name(markup: &mut Markup, spot: Spot) {
+    let (words, number) = match spot {
+        Spot::Lock(number) => ("Remove lock ", number),
+        Spot::Slot(number) => ("Cancel slot ", number),
+    };
+    markup.fixed(words);
+    markup.show(number);
 }
 
 /// What a step was on.
@@ -88,22 +71,28 @@ fn is_known(spots: &[Spot], spot: Spot) -> bool {
     false
 }
 
-/// What these steps were on, each once, in the order of their first steps. The one error is want of memory.
-fn spots_of(alloc: Global, lines: &[WordLine]) -> Result<Vec<Spot>, AllocError> {
-    let mut spots = Vec::new(alloc);
+/// Puts what these steps were on behind what stands there, each once. The one error is want of memory.
+fn put_new(spots: &mut Vec<Spot>, lines: &[WordLine]) -> Result<(), AllocError> {
     for line in lines {
         let spot = spot_of(line.act);
         if !is_known(spots.as_slice(), spot) {
             spots.push(spot)?;
         }
     }
+    Ok(())
+}
+
+/// What these steps were on, each once, in the order of their first steps. The one error is want of memory.
+pub fn spots_of(alloc: Global, lines: &[WordLine]) -> Result<Vec<Spot>, AllocError> {
+    let mut spots = Vec::new(alloc);
+    put_new(&mut spots, lines)?;
     Ok(spots)
 }
 
 /// Draws the steps on one spot.
 fn put_spot(markup: &mut Markup, spot: Spot, lines: &[WordLine]) {
     markup.open(Tag::H3, &[]);
-    markup.show(spot);
+    put_name(markup, spot);
     markup.close();
     markup.open(Tag::Ol, &[word("class", "lines")]);
     for line in lines {
@@ -124,23 +113,30 @@ fn put_spots(markup: &mut Markup, spots: &[Spot], lines: &[WordLine]) {
     }
 }
 
-/// Draws the steps on remove locks and cancel slots, at most 2,000; nothing where there are none. The one error is want
-/// of memory.
-pub fn put_lines(alloc: Global, markup: &mut Markup, lines: &[WordLine]) -> Result<(), AllocError> {
-    if lines.is_empty() {
-        return Ok(());
-    }
-    let few = &lines[..lines.len().min(MOST_LINES)];
-    let spots = spots_of(alloc, few)?;
-    markup.open(Tag::H2, &[]);
-    markup.fixed("Remove locks and cancel slots");
-    markup.close();
+/// As many of these steps as are listed.
+pub fn listed(lines: &[WordLine]) -> &[WordLine] {
+    &lines[..lines.len().min(MOST_LINES)]
+}
+
+/// Says what is listed, and whether that isn't all.
+fn put_because(markup: &mut Markup, is_all: bool) {
     markup.open(Tag::P, &[word("class", "because")]);
     markup.fixed("Steps that read and write no packet, and so aren\u{2019}t entries.");
-    if few.len() < lines.len() {
+    if !is_all {
         markup.fixed(" Only the first 2,000 are listed.");
     }
     markup.close();
-    put_spots(markup, spots.as_slice(), few);
-    Ok(())
+}
+
+/// Draws the steps on remove locks and cancel slots, at most 2,000, which were on these spots; nothing where there are
+/// none.
+pub fn put_lines(markup: &mut Markup, lines: &[WordLine], spots: &[Spot]) {
+    if lines.is_empty() {
+        return;
+    }
+    markup.open(Tag::H2, &[]);
+    markup.fixed("Remove locks and cancel slots");
+    markup.close();
+    put_because(markup, lines.len() <= MOST_LINES);
+    put_spots(markup, spots, listed(lines));
 }

@@ -12,9 +12,8 @@ use crate::tag::Tag;
 use irp_judge::{Difference, QuestionPart, ShownField, Wrong};
 use irp_listing::AskedWords;
 use irp_names::{AnsweredWords, ReplyWords};
-use irp_types::{Entry, LockNo};
+use irp_types::{Asked, Entry, LockNo};
 use std::alloc::{AllocError, Global};
-use std::fmt;
 
 /// The step in which an entry differs from the manager's, from 0.
 pub fn wrong_step(difference: Difference) -> Option<usize> {
@@ -24,26 +23,19 @@ pub fn wrong_step(difference: Difference) -> Option<usize> {
     }
 }
 
-/// In what an entry differs.
-#[derive(Clone, Copy)]
-struct DifferenceWords(Difference);
-
-impl fmt::Display for DifferenceWords {
-    fn fmt<W: fmt::Write>(&self, f: &mut fmt::Formatter<W>) -> fmt::Result {
-        match self.0 {
-            Difference::Number => f.write_str("its number"),
-            Difference::Lock => f.write_str("the remove lock of the device"),
-            Difference::Drained => f.write_str("whether that lock is known drained"),
-            Difference::Refusal => f.write_str("whether the call is refused, or how"),
-            Difference::Reply => f.write_str("its reply"),
-            Difference::Question { at, part } => {
-                write!(
-                    f,
-                    "step {}: {}",
-                    (at as u64).saturating_add(1),
-                    part_words(part)
-                )
-            }
+/// Puts in what an entry differs.
+fn put_part(markup: &mut Markup, difference: Difference) {
+    match difference {
+        Difference::Number => markup.fixed("its number"),
+        Difference::Lock => markup.fixed("the remove lock of the device"),
+        Difference::Drained => markup.fixed("whether that lock is known drained"),
+        Difference::Refusal => markup.fixed("whether the call is refused, or how"),
+        Difference::Reply => markup.fixed("its reply"),
+        Difference::Question { at, part } => {
+            markup.fixed("step ");
+            markup.show((at as u64).saturating_add(1));
+            markup.fixed(": ");
+            markup.fixed(part_words(part));
         }
     }
 }
@@ -77,55 +69,57 @@ fn field_words(field: ShownField) -> &'static str {
     }
 }
 
-/// What an entry says in the part that differs.
-#[derive(Clone, Copy)]
-struct SaysWords<'a> {
-    entry: &'a Entry,
-    difference: Difference,
+/// Puts a remove lock, where there is one.
+fn put_lock(markup: &mut Markup, lock: Option<LockNo>) {
+    match lock {
+        Some(lock) => {
+            markup.fixed("remove lock ");
+            markup.show(lock.0);
+        }
+        None => markup.fixed("none"),
+    }
 }
 
-impl fmt::Display for SaysWords<'_> {
-    fn fmt<W: fmt::Write>(&self, f: &mut fmt::Formatter<W>) -> fmt::Result {
-        let entry = self.entry;
-        match self.difference {
-            Difference::Number => write!(f, "{}", entry.number),
-            Difference::Lock => write!(f, "{}", LockWords(entry.lock)),
-            Difference::Drained => f.write_str(if entry.drained { "true" } else { "false" }),
-            Difference::Refusal | Difference::Reply => {
-                let (call, reply) = (entry.call, entry.reply);
-                write!(f, "{}", ReplyWords { call, reply })
-            }
-            Difference::Question { at, part } => match entry.asked.as_slice().get(at) {
-                None => f.write_str("asks nobody any more"),
-                Some(question) => match part {
-                    QuestionPart::Answer => write!(f, "{}", AnsweredWords(*question)),
-                    _ => write!(f, "asks {}", AskedWords(*question)),
-                },
-            },
+/// Puts what is asked in a step in which an entry differs.
+fn put_question(markup: &mut Markup, question: Option<&Asked>, part: QuestionPart) {
+    match (question, part) {
+        (None, _) => markup.fixed("asks nobody any more"),
+        (Some(question), QuestionPart::Answer) => markup.show(AnsweredWords(*question)),
+        (Some(question), _) => {
+            markup.fixed("asks ");
+            markup.show(AskedWords(*question));
         }
     }
 }
 
-/// A remove lock, where there is one.
-#[derive(Clone, Copy)]
-struct LockWords(Option<LockNo>);
-
-impl fmt::Display for LockWords {
-    fn fmt<W: fmt::Write>(&self, f: &mut fmt::Formatter<W>) -> fmt::Result {
-        match self.0 {
-            Some(lock) => write!(f, "remove lock {}", lock.0),
-            None => f.write_str("none"),
+/// Puts what an entry says in the part that differs.
+fn put_value(markup: &mut Markup, entry: &Entry, difference: Difference) {
+    match difference {
+        Difference::Number => markup.show(entry.number),
+        Difference::Lock => put_lock(markup, entry.lock),
+        Difference::Drained => markup.fixed(if entry.drained { "true" } else { "false" }),
+        Difference::Refusal | Difference::Reply => {
+            let (call, reply) = (entry.call, entry.reply);
+            markup.show(ReplyWords { call, reply });
+        }
+        Difference::Question { at, part } => {
+            put_question(markup, entry.asked.as_slice().get(at), part)
         }
     }
 }
 
-/// Draws a name and what it stands for.
-fn put_pair<D: fmt::Display + Drop>(markup: &mut Markup, name: &'static str, words: D) {
+/// Draws a name, and begins what it stands for.
+fn put_name(markup: &mut Markup, name: &'static str) {
     markup.open(Tag::Dt, &[]);
     markup.fixed(name);
     markup.close();
     markup.open(Tag::Dd, &[]);
-    markup.show(words);
+}
+
+/// Draws what an entry says in the part that differs, under this name.
+fn put_says(markup: &mut Markup, name: &'static str, entry: &Entry, difference: Difference) {
+    put_name(markup, name);
+    put_value(markup, entry, difference);
     markup.close();
 }
 
@@ -139,26 +133,20 @@ fn put_words(markup: &mut Markup, class: &'static str, words: &'static str) {
 /// Draws in what an entry differs from the manager's.
 fn put_difference(markup: &mut Markup, entry: &Entry, made: &Entry, difference: Difference) {
     markup.open(Tag::Dl, &[]);
-    put_pair(markup, "They differ in", DifferenceWords(difference));
-    put_pair(markup, "This entry says", SaysWords { entry, difference });
-    put_pair(
-        markup,
-        "The manager\u{2019}s says",
-        SaysWords {
-            entry: made,
-            difference,
-        },
-    );
+    put_name(markup, "They differ in");
+    put_part(markup, difference);
+    markup.close();
+    put_says(markup, "This entry says", entry, difference);
+    put_says(markup, "The manager\u{2019}s says", made, difference);
     markup.close();
 }
 
 /// What stands in the block that marks an entry: what is wrong with it, and the entry that the manager makes of its
 /// call. The one error is want of memory.
 pub fn block(deck: &Deck, picked: &Picked, wrong: &Wrong) -> Result<Markup, AllocError> {
-    let mut markup = Markup::new(deck.alloc);
-    let place = wrong.at;
     let life = picked.life;
     let rows = rows_of(deck.alloc, deck.made, life, &wrong.made)?;
+    let mut markup = Markup::new(deck.alloc);
     put_words(
         &mut markup,
         "no",
@@ -172,7 +160,10 @@ pub fn block(deck: &Deck, picked: &Picked, wrong: &Wrong) -> Result<Markup, Allo
     markup.close();
     let scene = Scene {
         entry: &wrong.made,
-        scope: Scope { place, made: true },
+        scope: Scope {
+            place: wrong.at,
+            made: true,
+        },
         wrong: None,
         rows: rows.as_slice(),
         owner: life.owner,

@@ -1,5 +1,4 @@
 pub mod Accounted
-pub mod Carried
 pub mod Chains
 pub mod Dealing
 pub mod Firsts

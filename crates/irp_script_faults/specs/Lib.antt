@@ -1,1 +1,1 @@
-pub mod Advice
+pub mod Warned

@@ -1,30 +1,27 @@
-//! What the steps of a script have made, as far as its text tells, and what isn't meant in one.
+//! What isn't meant in the steps of a script, by what they are answered as they are made in the order of the text.
+
+ghost use Rattle.std.specs.Prelude.{◌≡◌, IfOk, IfSome, Option, Some, true};
+ghost use Rattle.irp_types.specs.declared.refusal.Refusal.{Refusal as RefusalValue};
+ghost use Rattle.irp_types.specs.declared.reply.Reply.TheVariants.{Refused, Status as WithStatus};
+ghost use Rattle.irp_types.specs.declared.status.Status.{Status as StatusValue};
+ghost use Rattle.irp_plain.specs.declared.answered.Answered.{Answered as AnsweredValue};
+ghost use Rattle.irp_plain.specs.declared.answered.Answered.TheVariants.{Reply as Replied, Word as Worded};
+ghost use Rattle.irp_script_faults.specs.Warned as spec;
+ghost use Rattle.irp_script_faults.specs.Warned.{IsMade, IsTold, is_borne_out};
 
 use crate::conditions::may_be_answered;
-use crate::held::References;
-use crate::stacks::Stacks;
-use irp_script_reader::{Condition, Named, ScriptForm, ScriptParts, Step, StepAct};
-use irp_types::{Call, CancelId, DeviceId, Hand, LockAct, LockNo, Party, Rule, Setting};
-use std::alloc::{AllocError, Global};
+use irp_machine::{After, Answered, Run, Standing};
+use irp_script_reader::{Condition, Named, ScriptParts, Step, StepAct};
+use irp_steps::{UNBOUND, label_at, named_by, packet_of};
+use irp_transcript::WordReply;
+use irp_types::{
+    Asked, Call, CancelId, DeviceId, DispatchId, Hand, LockAct, LockNo, Party, Plan, Refusal,
+    Reply, Rule, Setting,
+};
+use std::alloc::AllocError;
 
-/// What is known of a label's packet.
-#[derive(Clone, Copy)]
-struct Packet {
-    /// How many locations it has; 0 where no allocate has bound the label.
-    size: u8,
-    /// The major function code that was last set for it.
-    major: Option<u8>,
-    /// Whether it was told that the label isn't bound.
-    told: bool,
-}
-
-/// What the steps so far have made.
-#[derive(Drop)]
-pub struct Made {
-    stacks: Stacks,
-    references: References,
-    packets: Vec<Packet>,
-}
+/// The most atomic steps of one step of a script.
+const MOST_ATOMIC: u32 = 8;
 
 /// What isn't meant in a step, and the key under which it stands.
 #[derive(Clone, Copy)]
@@ -44,13 +41,13 @@ pub enum Concern {
     },
     /// A packet has fewer locations than the stack has devices.
     TooShort {
-        size: u8,
-        devices: u64,
+        size: u32,
+        devices: u32,
     },
     /// A packet is passed down, and there is no device below.
     NoLower {
-        device: u64,
-        dispatch: u64,
+        device: DeviceId,
+        dispatch: DispatchId,
         major: u8,
     },
     /// A device is deleted that has a neighbour.
@@ -66,241 +63,142 @@ pub enum Concern {
     },
 }
 
-impl Made {
-    /// Nothing was made yet, in a script with so many labels. The one error is want of memory.
-    pub fn new(alloc: Global, labels: usize) -> Result<Made, AllocError> {
-        let mut packets = Vec::new(alloc);
-        for _ in 0..labels {
-            packets.push(Packet {
-                size: 0,
-                major: None,
-                told: false,
-            })?;
-        }
-        Ok(Made {
-            stacks: Stacks::new(alloc),
-            references: References::new(alloc),
-            packets,
-        })
-    }
-
-    /// What is known of a packet that is named by a label.
-    fn packet(&self, irp: Named) -> Option<Packet> {
-        match irp {
-            Named::Label(label) => self.packets.get(label).copied(),
-            Named::Irp(_) => None,
-        }
-    }
-
-    /// Whether a packet is named by a label that isn't bound, which wasn't told before.
-    fn is_unbound(&mut self, irp: Named) -> bool {
-        let Named::Label(label) = irp else {
-            return false;
-        };
-        match self.packets.get_mut(label) {
-            Some(packet) if packet.size == 0 && !packet.told => {
-                packet.told = true;
-                true
-            }
-            _ => false,
-        }
-    }
-
-    /// A label is bound to a new packet, where one of this size can be made.
-    fn bind(&mut self, form: ScriptForm, size: u8, label: usize) {
-        let most = match form {
-            ScriptForm::One => 16,
-            ScriptForm::Two { .. } | ScriptForm::Three { .. } => 32,
-        };
-        if let Some(packet) = self.packets.get_mut(label) {
-            if size <= most {
-                *packet = Packet {
-                    size,
-                    major: None,
-                    told: packet.told,
-                };
-            }
-        }
-    }
-
-    /// The major function code of a packet's next location is set.
-    fn set_major(&mut self, irp: Named, major: u8) {
-        if let Named::Label(label) = irp {
-            if let Some(packet) = self.packets.get_mut(label) {
-                packet.major = Some(major);
-            }
-        }
-    }
-
-    /// What isn't meant where a packet is sent to a device, if anything.
-    fn sent(
-        &self,
-        script: &ScriptParts,
-        party: Party,
-        irp: Named,
-        target: DeviceId,
-    ) -> Option<Concern> {
-        let packet = self.packet(irp)?;
-        let devices = self.stacks.size_of(target)?;
-        let is_new = matches!(party, Party::Originator) && packet.size > 0;
-        if is_new && devices > u64::from(packet.size) {
-            return Some(Concern::TooShort {
-                size: packet.size,
-                devices,
-            });
-        }
-        let major = packet.major?;
-        let bottom = self.stacks.bottom_of(script, target, major)?;
-        Some(Concern::NoLower {
-            device: bottom.device,
-            dispatch: bottom.dispatch,
-            major,
-        })
-    }
-
-    /// What isn't meant in an act on a remove lock, if anything. The one error is want of memory.
-    fn on_lock(&mut self, seat: u32, act: LockAct) -> Result<Option<Concern>, AllocError> {
-        let (lock, held) = match act {
-            LockAct::Acquire { lock, tag } => {
-                self.references.acquire(seat, lock, tag)?;
-                (lock, true)
-            }
-            LockAct::Release { lock, tag } => (lock, self.references.release(seat, lock, tag)),
-            LockAct::BeginRemove { lock, tag } => {
-                (lock, self.references.begin_remove(seat, lock, tag)?)
-            }
-            LockAct::Drained { lock } => (lock, true),
-        };
-        Ok((!held).then_some(Concern::NotHeld { seat, lock }))
-    }
-
-    /// What isn't meant in a hand, if anything. The one error is want of memory.
-    fn handed(&mut self, seat: u32, hand: Hand) -> Result<Option<Concern>, AllocError> {
-        let Hand { lock, tag, to } = hand;
-        if !self.references.holds(seat, lock, tag) {
-            return Ok(Some(Concern::NotHeld { seat, lock }));
-        }
-        if !self.references.is_full(to) {
-            let _ = self.references.release(seat, lock, tag);
-            self.references.acquire(to, lock, tag)?;
-        }
-        Ok(None)
-    }
-
-    /// What isn't meant in a call that makes or changes devices, if anything. The one error is want of memory.
-    fn on_devices(
-        &mut self,
-        script: &ScriptParts,
-        call: Call<Named, u32>,
-    ) -> Result<Option<Concern>, AllocError> {
-        match call {
-            Call::CreateDevice { driver, lock } => {
-                let there = (driver.0 as usize) < script.drivers.as_slice().len();
-                if there && lock.0 < script.locks {
-                    self.stacks.create(driver.0)?;
-                }
-            }
-            Call::Attach { device, to } => self.stacks.attach(device, to),
-            Call::Detach { lower } => self.stacks.detach(lower),
-            Call::Delete { device } => {
-                return Ok(self.stacks.delete(device).then_some(Concern::Attached));
-            }
-            _ => {}
-        }
-        Ok(None)
-    }
-
-    /// What isn't meant in a call on a packet, if anything.
-    fn on_packet(&mut self, script: &ScriptParts, call: Call<Named, u32>) -> Option<Concern> {
-        if self.is_unbound(packet_of(call)?) {
-            return Some(Concern::Unbound);
-        }
-        match call {
-            Call::SetNext { irp, major, .. } => {
-                self.set_major(irp, major);
-                None
-            }
-            Call::SetRoutine { setting, .. } => no_routine(script, setting),
-            Call::SetCancelRoutine { cancel, .. } => no_cancel(script, cancel?),
-            Call::CallDriver { party, irp, target } => self.sent(script, party, irp, target),
-            _ => None,
-        }
-    }
-
-    /// What isn't meant in a step, if anything, and what it makes: a step that hangs on another's answer may be passed
-    /// over, so of what it does nothing is told, and it gives nothing back. The one error is want of memory.
-    pub fn step(
-        &mut self,
-        script: &ScriptParts,
-        step: &Step,
-    ) -> Result<Option<Concern>, AllocError> {
-        let Some(condition) = step.condition else {
-            return self.made(script, step);
-        };
-        if !gives_back(step.act) {
-            self.made(script, step)?;
-        }
-        Ok(never_answered(script, condition))
-    }
-
-    /// What isn't meant in a step that is made, if anything, and what it makes. The one error is want of memory.
-    fn made(&mut self, script: &ScriptParts, step: &Step) -> Result<Option<Concern>, AllocError> {
-        match step.act {
-            StepAct::Call(call) => match self.on_devices(script, call)? {
-                Some(concern) => Ok(Some(concern)),
-                None => Ok(self.on_packet(script, call)),
-            },
-            StepAct::Allocate { size, label } => {
-                self.bind(script.form, size, label);
-                Ok(None)
-            }
-            StepAct::OnLock(act) => self.on_lock(step.seat, act),
-            StepAct::Hand(hand) => self.handed(step.seat, hand),
-            StepAct::Publish { irp, .. } => Ok(self.is_unbound(irp).then_some(Concern::Unbound)),
-            StepAct::Withdraw { .. } | StepAct::Request { .. } => Ok(None),
-        }
+/// What an act was answered, where it was answered this before.
+fn answer_behind(behind: After, answer: Option<Answered>) -> Option<Answered>
+    ensures { result ≡ spec.answer_behind behind answer }
+{
+    match behind {
+        After::Told(given) | After::Binds(given, _) => Some(given),
+        After::In(_) | After::Bound => answer,
     }
 }
 
-/// Whether a step gives something back, which a later one can't give back then.
-fn gives_back(act: StepAct) -> bool {
-    matches!(
-        act,
-        StepAct::OnLock(LockAct::Release { .. } | LockAct::BeginRemove { .. })
-            | StepAct::Hand(_)
-            | StepAct::Call(Call::Detach { .. } | Call::Delete { .. })
-    )
+/// Makes a step of a script whole, and tells what it was answered. None where it is passed over.
+///
+/// # Errors
+///
+/// `AllocError` where memory runs out. It would also be the answer where a step had more atomic steps than any has.
+pub fn answer_of<'a>(
+    start: Run<'a>,
+    place: usize,
+    seat: u32,
+) -> Result<(Run<'a>, Option<Answered>), AllocError>
+    ensures { IfOk result (λ made. IsMade start.entry seat place made.1 made.0) }
+{
+    let (mut run, mut answer) = (start, None);
+    for _part in 0..MOST_ATOMIC {
+        let (next, behind) = run.play(seat, place)?;
+        run = next;
+        match behind {
+            Some(behind) => answer = answer_behind(behind, answer),
+            None => return Ok((run, answer)),
+        }
+    }
+    Err(AllocError)
+}
+
+/// Whether an act names a label that isn't bound, of which that wasn't told before.
+fn is_unbound(standing: &Standing, told: &mut Vec<bool>, act: StepAct) -> bool {
+    let Some(Named::Label(label)) = named_by(act) else {
+        return false;
+    };
+    match told.get_mut(label) {
+        Some(told) if !*told && label_at(standing.labels(), label) == UNBOUND => {
+            *told = true;
+            true
+        }
+        _ => false,
+    }
+}
+
+/// What isn't meant in a step that was answered so, if anything. Of a label that isn't bound it is told once.
+fn of_answer(
+    run: &Run,
+    script: &ScriptParts,
+    told: &mut Vec<bool>,
+    step: &Step,
+    answer: Answered,
+) -> Option<Concern>
+    ensures { IfSome result (λ concern. is_borne_out concern (Some answer) ≡ true) }
+{
+    if is_unbound(run.standing(), told, step.act) {
+        return Some(Concern::Unbound);
+    }
+    match (step.act, answer) {
+        (StepAct::Call(call), Answered::Reply(reply)) => of_call(run, script, call, reply),
+        (act, Answered::Word(reply)) => not_held(act, step.seat, reply),
+        _ => None,
+    }
+}
+
+/// What isn't meant in a step that was answered so, or passed over, if anything.
+pub fn concern_of(
+    run: &Run,
+    script: &ScriptParts,
+    told: &mut Vec<bool>,
+    step: &Step,
+    answer: Option<Answered>,
+) -> Option<Concern>
+    ensures { IsTold result answer }
+{
+    match (never_answered(script, step.condition), answer) {
+        (None, Some(answer)) => of_answer(run, script, told, step, answer),
+        (never, _) => never,
+    }
 }
 
 /// The step that a condition names is never answered so.
-fn never_answered(script: &ScriptParts, condition: Condition) -> Option<Concern> {
-    let step = condition.step;
+fn never_answered(script: &ScriptParts, condition: Option<Condition>) -> Option<Concern>
+    ensures { IfSome result (λ concern.
+        (answer : Option AnsweredValue) → is_borne_out concern answer ≡ true) }
+{
+    let Condition { step, answer, .. } = condition?;
     let named = script.steps.as_slice().get(step as usize)?;
-    (!may_be_answered(named.act, condition.answer)).then_some(Concern::NeverAnswered { step })
+    (!may_be_answered(named.act, answer)).then_some(Concern::NeverAnswered { step })
 }
 
-/// The packet that a call is on.
-fn packet_of(call: Call<Named, u32>) -> Option<Named> {
-    match call {
-        Call::Free { irp }
-        | Call::Reuse { irp, .. }
-        | Call::SetNext { irp, .. }
-        | Call::CopyToNext { irp, .. }
-        | Call::Skip { irp, .. }
-        | Call::SetRoutine { irp, .. }
-        | Call::MarkPending { irp, .. }
-        | Call::CallDriver { irp, .. }
-        | Call::Complete { irp, .. }
-        | Call::FinishTaken { irp, .. }
-        | Call::SetCancelRoutine { irp, .. }
-        | Call::Cancel { irp }
-        | Call::Look { irp } => Some(irp),
+/// A seat gave back what it doesn't hold.
+fn not_held(act: StepAct, seat: u32, reply: WordReply) -> Option<Concern>
+    ensures { IfSome result (λ concern. is_borne_out concern (Some (Worded reply)) ≡ true) }
+{
+    match (act, reply) {
+        (
+            StepAct::OnLock(LockAct::Release { lock, .. } | LockAct::BeginRemove { lock, .. })
+            | StepAct::Hand(Hand { lock, .. }),
+            WordReply::NotHeld | WordReply::NoLock,
+        ) => Some(Concern::NotHeld { seat, lock }),
+        _ => None,
+    }
+}
+
+/// What isn't meant in a call that was answered so, if anything.
+fn of_call(run: &Run, script: &ScriptParts, call: Call<Named, u32>, reply: Reply) -> Option<Concern>
+    ensures { IfSome result (λ concern. is_borne_out concern (Some (Replied reply)) ≡ true) }
+{
+    match (call, reply) {
+        (Call::SetRoutine { setting, .. }, _) => no_routine(script, setting),
+        (Call::SetCancelRoutine { cancel, .. }, _) => no_cancel(script, cancel?),
+        (Call::Delete { .. }, Reply::Refused(Refusal::StillAttached)) => Some(Concern::Attached),
+        (
+            Call::CallDriver {
+                party: Party::Originator,
+                target,
+                ..
+            },
+            Reply::Refused(_),
+        ) => too_short(run.standing(), StepAct::Call(call), target),
+        (Call::CallDriver { .. }, Reply::Status(_)) => {
+            no_lower(script, run.entries().last()?.asked.as_slice())
+        }
         _ => None,
     }
 }
 
 /// A routine that isn't there.
-fn no_routine(script: &ScriptParts, setting: Setting) -> Option<Concern> {
+fn no_routine(script: &ScriptParts, setting: Setting) -> Option<Concern>
+    ensures { IfSome result (λ concern.
+        (answer : Option AnsweredValue) → is_borne_out concern answer ≡ true) }
+{
     let mut count = 0u32;
     for routine in script.completions.as_slice() {
         if routine.rule == setting.routine.rule {
@@ -316,8 +214,54 @@ fn no_routine(script: &ScriptParts, setting: Setting) -> Option<Concern> {
 }
 
 /// A cancel routine that isn't there.
-fn no_cancel(script: &ScriptParts, cancel: CancelId) -> Option<Concern> {
+fn no_cancel(script: &ScriptParts, cancel: CancelId) -> Option<Concern>
+    ensures { IfSome result (λ concern.
+        (answer : Option AnsweredValue) → is_borne_out concern answer ≡ true) }
+{
     let count = script.cancels.as_slice().len();
     let number = cancel.0;
     (number as usize >= count).then_some(Concern::NoCancel { number, count })
+}
+
+/// A packet has fewer locations than the stack of a device has devices up to it.
+fn too_short(standing: &Standing, act: StepAct, target: DeviceId) -> Option<Concern>
+    ensures { IfSome result (λ concern. (refusal : RefusalValue)
+        → is_borne_out concern (Some (Replied (Refused refusal))) ≡ true) }
+{
+    let manager = standing.manager();
+    let packet = &manager.live(packet_of(standing.labels(), act).slot)?.packet;
+    let stacks = manager.stacks();
+    if target.0 >= stacks.len() {
+        return None;
+    }
+    let (size, devices) = (packet.size(), stacks.stack_size(target));
+    (size < devices).then_some(Concern::TooShort { size, devices })
+}
+
+/// Whether a dispatch's plan passes the packet down.
+fn passes_down(script: &ScriptParts, dispatch: DispatchId) -> bool {
+    matches!(
+        script.dispatches.as_slice().get(dispatch.0 as usize),
+        Some(Plan::Skip | Plan::Forward { .. } | Plan::ForwardPend { .. })
+    )
+}
+
+/// Of the dispatches that were asked the one that passes the packet down where no device is below.
+fn no_lower(script: &ScriptParts, asked: &[Asked]) -> Option<Concern>
+    ensures { IfSome result (λ concern. (status : StatusValue)
+        → is_borne_out concern (Some (Replied (WithStatus status))) ≡ true) }
+{
+    for one in asked {
+        match *one {
+            Asked::Dispatch { id, shown, .. } if !shown.has_lower && passes_down(script, id) => {
+                return Some(Concern::NoLower {
+                    device: shown.device?,
+                    dispatch: id,
+                    major: shown.major,
+                });
+            }
+            _ => {}
+        }
+    }
+    None
 }

@@ -1,18 +1,19 @@
 //! What of a script that is taken is hardly meant: calls that the manager will refuse, or that go another way than they
 //! look. Steps are followed in the order of the text. Source: this project's own rule.
 
-use crate::fault::{put_place, put_section};
-use crate::made::{Concern, Made};
-use crate::nodes::Node;
-use crate::places::Place;
-use crate::small::there_are;
-use crate::tokens::tokens_of;
-use crate::top::key_of;
-use crate::words::{Finding, Piece, put};
+ghost use Rattle.std.specs.Prelude.{◌≡◌, All, IfOk, OnOk, length};
+ghost use Rattle.irp_script_faults.specs.Warned as spec;
+ghost use Rattle.irp_script_faults.specs.Warned.{AreMade, BeginsSo, IsAdded, IsBorneOut};
+
+use crate::made::{Concern, answer_of, concern_of};
 use Piece::{Number, Say, Show};
+use irp_machine::{Run, header_of};
 use irp_names::major_name;
-use irp_script_reader::{Script, ScriptParts, Section};
-use irp_types::{LockNo, Rule};
+use irp_script_reader::{Script, ScriptParts, Section, Step};
+use irp_text_faults::{
+    Finding, Node, Piece, Place, key_of, put, put_place, put_section, there_are, tokens_of,
+};
+use irp_types::{DeviceId, DispatchId, LockNo, Rule};
 use std::alloc::{AllocError, Global};
 
 /// The most warnings that are told.
@@ -28,6 +29,8 @@ pub struct Warning {
     /// Where it stands.
     pub place: Place,
     /// What isn't meant.
+    concern: Concern,
+    /// What is said of that.
     words: Vec<u8>,
 }
 
@@ -73,7 +76,7 @@ fn rule_word(rule: Rule) -> &'static str {
 }
 
 /// Says that a packet is too short.
-fn tell_too_short(found: &mut Finding, node: Node, size: u8, devices: u64) -> bool {
+fn tell_too_short(found: &mut Finding, node: Node, size: u32, devices: u32) -> bool {
     let locations = if size == 1 {
         " location, "
     } else {
@@ -86,24 +89,30 @@ fn tell_too_short(found: &mut Finding, node: Node, size: u8, devices: u64) -> bo
             Number(u64::from(size)),
             Say(locations),
             Say("the stack of the target "),
-            Number(devices),
+            Number(u64::from(devices)),
             Say(" devices; allocate one for each"),
         ],
     )
 }
 
 /// Says that no device is below.
-fn tell_no_lower(found: &mut Finding, node: Node, device: u64, dispatch: u64, major: u8) -> bool {
+fn tell_no_lower(
+    found: &mut Finding,
+    node: Node,
+    device: DeviceId,
+    dispatch: DispatchId,
+    major: u8,
+) -> bool {
     let name = major_name(major).unwrap_or("the packet");
     found.wrong(
         node,
         &[
             Say("dispatch "),
-            Number(dispatch),
+            Number(u64::from(dispatch.0)),
             Say(" passes "),
             Say(name),
             Say(" down, and no device is below device "),
-            Number(device),
+            Number(u64::from(device.0)),
             Say(": it finishes with 3221225488 (STATUS_INVALID_DEVICE_REQUEST)"),
         ],
     )
@@ -184,7 +193,10 @@ fn warning_of(
     section: Section,
     index: usize,
     concern: Concern,
-) -> Result<Warning, AllocError> {
+) -> Result<Warning, AllocError>
+    ensures { IfOk result (λ warning. (warning.section ≡ section) × (warning.index ≡ index)
+        × (warning.concern ≡ concern)) }
+{
     let mut found = Finding::new(alloc, whole.text);
     tell(&mut found, node_of(whole, section, index, concern), concern);
     let place = found.place();
@@ -193,44 +205,79 @@ fn warning_of(
         section,
         index,
         place,
+        concern,
         words,
     })
 }
 
-/// Puts the warnings of a list of steps. The one error is want of memory.
-fn add_warnings(
-    alloc: Global,
-    found: &mut Vec<Warning>,
-    made: &mut Made,
-    script: &ScriptParts,
-    whole: Node,
-    section: Section,
-) -> Result<(), AllocError> {
-    let steps = match section {
+/// The steps of a list.
+fn steps_in(script: &ScriptParts, section: Section) -> &[Step]
+    ensures { result.now ≡ spec.steps_in script.now section }
+{
+    match section {
         Section::Setup => script.setup.as_slice(),
         _ => script.steps.as_slice(),
-    };
-    for (index, step) in steps.iter().enumerate() {
-        if let Some(concern) = made.step(script, step)? {
-            if found.len() < MOST_WARNINGS {
-                found.push(warning_of(alloc, whole, section, index, concern)?)?;
-            }
+    }
+}
+
+/// Puts a warning, where there is one and there are fewer than may be. The one error is want of memory.
+fn add_warning(
+    found: &mut Vec<Warning>,
+    whole: Node,
+    section: Section,
+    index: usize,
+    concern: Option<Concern>,
+) -> Result<(), AllocError>
+    ensures { OnOk result (IsAdded section index concern found.old.items found.new.items) }
+{
+    if let Some(concern) = concern {
+        if found.len() < MOST_WARNINGS {
+            let alloc = *found.allocator();
+            found.push(warning_of(alloc, whole, section, index, concern)?)?;
         }
     }
     Ok(())
 }
 
-/// What of a script that is taken is hardly meant, in the order of its steps, a hundred at most: a plan that passes a
-/// packet down at a device that has none below; a label that no allocate binds before; a routine that isn't there; a
-/// reference to a remove lock that is given back more often than its seat acquires it; a packet with fewer locations
-/// than the stack has devices that it is sent to; a device that is deleted before it is detached; a condition on an
-/// answer that its step never gives. The script is the one that was read from the text. Each is told as far as the text
-/// alone shows it, and of what a step with a condition does nothing.
+/// Makes the steps of a list, and puts what is warned of. The one error is want of memory.
+fn add_warnings<'a>(
+    found: &mut Vec<Warning>,
+    told: &mut Vec<bool>,
+    start: Run<'a>,
+    script: &ScriptParts,
+    whole: Node,
+    section: Section,
+) -> Result<Run<'a>, AllocError>
+    requires begins { BeginsSo script.now section start }
+    requires borne { All (IsBorneOut script.now) found.old.items }
+    ensures made { IfOk result (AreMade start.entry (spec.steps_in script.now section)
+        (length (spec.steps_in script.now section))) }
+    ensures borne { OnOk result (All (IsBorneOut script.now) found.new.items) }
+{
+    let steps = steps_in(script, section);
+    let mut run = start;
+    for index in 0..steps.len() {
+        let (next, answer) = answer_of(run, index, steps[index].seat)?;
+        run = next;
+        let concern = concern_of(&run, script, told, &steps[index], answer);
+        add_warning(found, whole, section, index, concern)?;
+    }
+    Ok(run)
+}
+
+/// What of a script that is taken is hardly meant, in the order of its steps, a hundred at most. The script is the one
+/// that was read from the text. It is run in the order of the text, and each warning but the last three stands at a
+/// step that was made, and by what that was answered: a send of a packet with fewer locations than the stack has
+/// devices, which was refused; a plan that passed a packet down at a device that has none below; a device that wasn't
+/// deleted, since it has a neighbour; a reference to a remove lock that its seat didn't hold as it was given back; a
+/// label that no allocate had bound; a routine that isn't there; a condition on an answer that its step never gives.
 ///
 /// # Errors
 ///
 /// Memory runs out.
-pub fn warnings(alloc: Global, text: &[u8], script: &Script) -> Result<Vec<Warning>, AllocError> {
+pub fn warnings(alloc: Global, text: &[u8], script: &Script) -> Result<Vec<Warning>, AllocError>
+    ensures { IfOk result (λ found. All (IsBorneOut script.now) found.items) }
+{
     let tokens = tokens_of(alloc, text)?;
     let whole = Node {
         text,
@@ -238,9 +285,12 @@ pub fn warnings(alloc: Global, text: &[u8], script: &Script) -> Result<Vec<Warni
         at: 0,
     };
     let parts = script.parts();
-    let mut made = Made::new(alloc, parts.labels.len())?;
+    let header = header_of(alloc, parts)?;
+    let mut told = Vec::from_elem(alloc, false, parts.labels.len())?;
     let mut found = Vec::new(alloc);
-    add_warnings(alloc, &mut found, &mut made, parts, whole, Section::Setup)?;
-    add_warnings(alloc, &mut found, &mut made, parts, whole, Section::Steps)?;
+    let run = Run::new(alloc, &header, parts)?;
+    let run = add_warnings(&mut found, &mut told, run, parts, whole, Section::Setup)?;
+    let run = run.behind(alloc)?;
+    let _run = add_warnings(&mut found, &mut told, run, parts, whole, Section::Steps)?;
     Ok(found)
 }

@@ -1,2 +1,2 @@
-mod Cuts
-mod Kept
+pub mod Said
+mod Same

@@ -1,21 +1,22 @@
 -- Transcripts as the formats read them from bytes, line after line.
+use Rattle.std.specs.Option.{option_map}
 use Rattle.std.specs.Prelude.{◌≡◌, ℕ, zero, suc, ◌+◌, ◌<◌, ◌≤◌, ◌==◌, ◌&&◌, nat_lt, List, [], ◌∷◌, ◌++◌, length}
-use Rattle.std.specs.Prelude.{codes, Bool, true, is_some, IsUtf8, Option, Some, None, Result, Ok, Err, if◌then◌else◌}
+use Rattle.std.specs.Prelude.{codes, Bool, true, false, is_some, IsUtf8, Option, Some, None, Result, Ok, Err, if◌then◌else◌}
 use Rattle.serde_json.specs.Data.{Data}
 use Rattle.serde_json.specs.Find.{get}
 use Rattle.serde_json.specs.Read.{read}
-use Rattle.irp_forms.specs.Parts.{◌>>=◌}
 use Rattle.irp_forms.specs.declared.unread.Unread.{Unread}
 use Rattle.irp_forms.specs.declared.unread.Unread.TheVariants as unread
 use Rattle.irp_types.specs.declared.entry.Entry.{Entry}
 use Rattle.irp_transcript.specs.Headers.{IsHeader}
 use Rattle.irp_transcript.specs.Transcripts.{TranscriptValue}
-use Rattle.irp_transcript.specs.declared.{header.Header.Header, header.Form.Form, word_line.Act.Act}
+use Rattle.irp_transcript.specs.declared.{header.Header.Header, word_line.Act.Act, word_line.WordLine.WordLine}
 use Rattle.irp_transcript.specs.declared.word_line.Act.TheVariants as acts
 use Rattle.irp_transcript_reader.specs.Forms.{has_entry, has_word}
 use Rattle.irp_transcript_reader.specs.Lines.{entry_at, header_at}
 use Rattle.irp_transcript_reader.specs.WordLines.{word_line_at}
-use Rattle.irp_transcript_reader.specs.declared.{read_fault.ReadFault.ReadFault, reading.Reading.Reading}
+use Rattle.irp_transcript_reader.specs.declared.{line.Line.Line, read_fault.ReadFault.ReadFault, reading.Reading.Reading, seen.Seen.Seen}
+use Rattle.irp_transcript_reader.specs.declared.line.Line.TheVariants.{Header as HeaderLine, Entry as EntryLine, Word as WordLineOf}
 use Rattle.irp_transcript_reader.specs.declared.read_fault.ReadFault.TheVariants as faults
 
 -- ---- values
@@ -36,45 +37,61 @@ abbrev pub hands_within : ℕ → Act → Bool
 hands_within seats (acts.Hand hand) = nat_lt hand.to seats
 hands_within seats other = true
 
--- another entry may stand here: before the word lines, and where there are not too many
-abbrev pub has_room : TranscriptValue → Bool
-has_room before = (length before.words == 0) && nat_lt (length before.entries) most_entries
+-- what the lines so far leave to those behind them: before the header nothing
+abbrev pub seen_of : TranscriptValue → Option Seen
+seen_of before = option_map (λ (header : Header). record {
+  form = header.form;
+  seats = header.seats;
+  entries = length before.entries;
+  before_words = length before.words == 0;
+}) before.header
 
--- the transcript with this entry more, where it may stand: one of these seats, which the form has
-unfoldable pub with_entry : Form → ℕ → TranscriptValue → Entry → Option TranscriptValue
-with_entry kind seats before entry =
-    if has_room before && (nat_lt entry.seat seats && has_entry kind entry)
-    then Some (record before { entries = before.entries ++ entry ∷ [] })
-    else None
+-- and with this line more
+abbrev pub seen_behind : Option Seen → Line → Option Seen
+seen_behind seen (HeaderLine header) =
+    Some (record { form = header.form; seats = header.seats; entries = 0; before_words = true })
+seen_behind seen (EntryLine entry) = option_map (λ (it : Seen). record it { entries = it.entries + 1 }) seen
+seen_behind seen (WordLineOf word) = option_map (λ (it : Seen). record it { before_words = false }) seen
 
--- the transcript with one more word line, where it may stand: of one of these seats, which the form has
-unfoldable pub with_word : Form → ℕ → TranscriptValue → Data → Option TranscriptValue
-with_word kind seats before form = word_line_at form >>= λ line.
-    if (nat_lt line.seat seats && hands_within seats line.act) && has_word kind line
-    then Some (record before { words = before.words ++ line ∷ [] })
-    else None
+-- an entry may stand there: before the word lines, where there are not too many, of one of the seats, if the form has it
+abbrev pub takes_entry : Seen → Entry → Bool
+takes_entry seen entry =
+    (seen.before_words && nat_lt seen.entries most_entries) && (nat_lt entry.seat seen.seats && has_entry seen.form entry)
 
--- the transcript with the entry or the word line that the value is
-unfoldable pub with_line : Form → ℕ → TranscriptValue → Data → Option TranscriptValue
-with_line kind seats before form =
-    if is_entry form then (entry_at form >>= with_entry kind seats before) else with_word kind seats before form
+-- a word line may stand there: of one of the seats, if the form has it
+abbrev pub takes_word : Seen → WordLine → Bool
+takes_word seen word =
+    (nat_lt word.seat seen.seats && hands_within seen.seats word.act) && has_word seen.form word
 
--- the next value makes the one transcript of the other: first a header that the formats accept, and then entries and
--- word lines of its form and its seats
-abbrev pub IsNextUnder : Option Header → TranscriptValue → Data → TranscriptValue → Type 0
-IsNextUnder None before form after =
-    (header : Header) × (header_at form ≡ Some header) × IsHeader header
-    × (after ≡ record before { header = Some header })
-IsNextUnder (Some header) before form after = with_line header.form header.seats before form ≡ Some after
+-- the value is this line: first a header that the formats accept, and then an entry or a word line that may stand there
+abbrev pub Says : Option Seen → Data → Line → Type 0
+Says None form (HeaderLine header) = (header_at form ≡ Some header) × IsHeader header
+Says None form other = ⊥
+Says (Some seen) form (HeaderLine header) = ⊥
+Says (Some seen) form (EntryLine entry) =
+    (is_entry form ≡ true) × (entry_at form ≡ Some entry) × (takes_entry seen entry ≡ true)
+Says (Some seen) form (WordLineOf word) =
+    (is_entry form ≡ false) × (word_line_at form ≡ Some word) × (takes_word seen word ≡ true)
 
+-- the transcript with one line more
+abbrev pub with_line : TranscriptValue → Line → TranscriptValue
+with_line before (HeaderLine header) = record before { header = Some header }
+with_line before (EntryLine entry) = record before { entries = before.entries ++ entry ∷ [] }
+with_line before (WordLineOf word) = record before { words = before.words ++ word ∷ [] }
+
+-- the next value makes the one transcript of the other
 abbrev pub IsNext : TranscriptValue → Data → TranscriptValue → Type 0
-IsNext before form after = IsNextUnder before.header before form after
+IsNext before form after = (line : Line) × Says (seen_of before) form line × (after ≡ with_line before line)
 
 -- ---- lines
 
 -- a line, without its newline, isn't too long, and serde_json reads it as this value
 abbrev pub IsLine : List ℕ → Data → Type 0
 IsLine line form = (length line ≤ most_bytes) × IsUtf8 line × (read line ≡ Some form)
+
+-- a line is this one, behind what was seen
+abbrev pub IsLineOf : Option Seen → List ℕ → Line → Type 0
+IsLineOf seen line given = (form : Data) × IsLine line form × Says seen form given
 
 -- a line is read as this entry
 abbrev pub IsEntryLine : List ℕ → Entry → Type 0
@@ -149,14 +166,25 @@ TakesValue (Ok done) before form after = IsNext before form after
 TakesValue (Err unread.Form) before form after = (other : TranscriptValue) → IsNext before form other → ⊥
 TakesValue (Err unread.NoMemory) before form after = Unit {0}
 
--- what the next entry or word line made of it
-abbrev pub GivesLine : Result (Unit {0}) Unread → Option TranscriptValue → TranscriptValue → Type 0
-GivesLine (Ok done) made after = made ≡ Some after
-GivesLine (Err unread.Form) made after = made ≡ None
-GivesLine (Err unread.NoMemory) made after = Unit {0}
-
 -- what the next line made of it
 abbrev pub TakesLine : Result (Unit {0}) Unread → TranscriptValue → List ℕ → TranscriptValue → Type 0
 TakesLine (Ok done) before line after = Takes before line after
 TakesLine (Err unread.Form) before line after = Refuses before line
 TakesLine (Err unread.NoMemory) before line after = TakesMemory line
+
+-- what a line or its value is, behind what was seen: an entry or a word line where it may stand
+abbrev pub entry_line : Seen → Entry → Result Line Unread
+entry_line seen entry = if takes_entry seen entry then Ok (EntryLine entry) else Err unread.Form
+
+abbrev pub word_line : Seen → WordLine → Result Line Unread
+word_line seen word = if takes_word seen word then Ok (WordLineOf word) else Err unread.Form
+
+abbrev pub SaysLine : Result Line Unread → Option Seen → Data → Type 0
+SaysLine (Ok line) seen form = Says seen form line
+SaysLine (Err unread.Form) seen form = (line : Line) → Says seen form line → ⊥
+SaysLine (Err unread.NoMemory) seen form = Unit {0}
+
+abbrev pub ReadsLine : Result Line Unread → Option Seen → List ℕ → Type 0
+ReadsLine (Ok given) seen line = IsLineOf seen line given
+ReadsLine (Err unread.Form) seen line = (given : Line) → IsLineOf seen line given → ⊥
+ReadsLine (Err unread.NoMemory) seen line = TakesMemory line

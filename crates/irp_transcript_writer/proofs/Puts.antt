@@ -1,13 +1,11 @@
 -- Texts that go out one after another: what was sent and where it stopped, for two texts and for the lines of values.
-use Rattle.std.proofs.Common.{◌≡◌, ℕ, zero, suc, ◌+◌, ◌-◌, ◌^◌, ◌<◌, ◌≤◌, ◌==◌, false, List, [], ◌∷◌, ◌++◌, map, length, take, drop, get_or, Option, Some, None, Ok, refl, sym, ap, ◌∙◌, subst, append_assoc, append-nil, arith, length-append, length-drop}
-use Rattle.std.proofs.Math.Seq.{take-add, take-length}
+use Rattle.std.proofs.Common.{◌≡◌, ℕ, zero, suc, ◌+◌, ◌-◌, ◌^◌, ◌<◌, ◌≤◌, List, [], ◌∷◌, ◌++◌, map, length, take, drop, get_or, Option, refl, sym, ap, ◌∙◌, subst, append_assoc, append-nil, arith, length-append, length-drop}
 use Rattle.std.proofs.lemmas.List.{take-append-drop, length-take-le}
 use Rattle.std.proofs.lemmas.Grind.{common_steps}
-use Rattle.std.proofs.lemmas.Bool.Decides.{nat_tests}
-use Rattle.std.specs.Io.KnownBytes.{Appends, Keeps}
+use Rattle.std.specs.Io.KnownBytes.{Appends}
 use Rattle.serde_json.specs.Data.{Data}
 use Rattle.serde_json.specs.Written.{compact_text}
-use Rattle.irp_transcript_writer.specs.Out.{counted}
+use Rattle.irp_streams.proofs.Pieces.{appends_none, appends_then}
 use Rattle.irp_transcript_writer.specs.Json.{line_text}
 use Rattle.irp_transcript_writer.specs.Lines.{text_of, lines, header_lines, entry_json, word_json}
 use Rattle.irp_transcript_writer.specs.Puts.{told, Sent, Stopped}
@@ -16,49 +14,8 @@ use Rattle.irp_transcript.specs.Transcripts.{TranscriptValue}
 use Rattle.irp_transcript.specs.declared.header.Header.{Header}
 use Rattle.irp_transcript.specs.declared.word_line.WordLine.{WordLine}
 
--- what a slice from a place on holds
-slice_rest : {T : Type 0} (done : ℕ) (items : List T) → take (length items - done) (drop done items) ≡ drop done items
-slice_rest done items = rw (← length-drop done items) (take-length (drop done items))
-
 told_on : (before first second count : ℕ) → count ≡ told (before + first) → told (count + second) ≡ told (before + (first + second))
 told_on before first second count same = rw same (omega arith)
-
--- ---- what went out
-
-pub appends_none : (old : Option (List ℕ)) → Appends old old []
-appends_none None = tt
-appends_none (Some bytes) = sym (append-nil bytes)
-
-pub appends_then : (first second : List ℕ) (old mid new : Option (List ℕ)) → Appends old mid first → Appends mid new second → Appends old new (first ++ second)
-appends_then first second None mid new before after = tt
-appends_then first second (Some a) None new before after = absurd before
-appends_then first second (Some a) (Some b) None before after = absurd after
-appends_then first second (Some a) (Some b) (Some c) before after = after ∙ ap (λ bytes. bytes ++ second) before ∙ append_assoc a first second
-
-pub appends_kept : (text : List ℕ) (old mid new : Option (List ℕ)) → Appends old mid text → Keeps mid new → Appends old new text
-appends_kept text None mid new before after = tt
-appends_kept text (Some a) None new before after = absurd before
-appends_kept text (Some a) (Some b) None before after = absurd after
-appends_kept text (Some a) (Some b) (Some c) before after = after ∙ before
-
--- a front of a text, and then a front of the rest
-pub front_then : (text : List ℕ) (done taken : ℕ) (old mid new : Option (List ℕ)) → Appends old mid (take done text) → Appends mid new (take taken (take (length text - done) (drop done text))) → Appends old new (take (done + taken) text)
-front_then text done taken old mid new before after =
-    subst (λ bytes. Appends old new bytes)
-    (ap (λ rest. take done text ++ take taken rest) (slice_rest done text) ∙ sym (take-add done taken text))
-    (appends_then _ _ old mid new before after)
-
--- what was taken of the rest is within the text
-pub front_within : (text : List ℕ) (done taken : ℕ) → done < length text → taken ≤ length (take (length text - done) (drop done text)) → done + taken ≤ length text
-front_within text done taken within bound =
-    let bound_here : taken ≤ length text - done = subst (λ size. taken ≤ size) (ap length (slice_rest done text) ∙ length-drop done text) bound in
-    omega arith
-
--- a put that took something is no failure
-pub counted_taken : (taken : ℕ) (piece : List ℕ) (count : ℕ) → ¬ (taken ≡ 0) → counted (Ok taken) piece count ≡ count
-counted_taken taken piece count more =
-    let some : (taken == 0) ≡ false = grind (arith, nat_tests) in
-    rw some refl
 
 -- ---- two texts
 

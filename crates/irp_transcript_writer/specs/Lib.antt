@@ -1,5 +1,4 @@
-pub mod Out
 pub mod Json
 pub mod Lines
-pub mod Texts
+pub mod Rows
 pub mod Puts

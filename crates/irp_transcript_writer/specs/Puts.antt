@@ -1,7 +1,7 @@
 -- What a call that writes a text did.
 use Rattle.std.specs.Prelude.{◌≡◌, ℕ, ◌+◌, ◌-◌, ◌<◌, ◌^◌, min, List, ◌++◌, length, Option, Result, Ok, Err}
 use Rattle.std.specs.Io.KnownBytes.{Appends}
-use Rattle.irp_transcript_writer.specs.Out.{risen}
+use Rattle.irp_streams.specs.Out.{risen}
 use Rattle.irp_transcript_writer.specs.declared.{write.Cause.Cause, write.WriteFault.WriteFault}
 use Rattle.irp_transcript_writer.specs.declared.write.Cause.TheVariants.{Io, Memory}
 

@@ -1,13 +1,12 @@
 //! The forms of word lines.
 #![tactic(auto, unfolding(json::specs::Print::escape_byte))]
 
-ghost use Rattle.std.specs.Prelude.{◌≡◌, ◌++◌, OnOk};
 ghost use Rattle.irp_transcript_writer.specs.Lines.{word_json, word_reply_json};
-ghost use Rattle.irp_transcript_writer.specs.Texts.{locked_text, slot_text};
 
-use crate::form::{Written, put, put_one, put_text, put_two};
+use crate::form::{Written, put_one, put_text};
+use crate::rows::{Part, put_row, row};
 use irp_transcript::{Act, WordLine, WordReply};
-use irp_types::{LockAct, LockNo, SlotAct, Status};
+use irp_types::{Hand, LockAct, SlotAct, Status};
 use std::alloc::AllocError;
 
 impl Written for WordReply {
@@ -36,69 +35,56 @@ impl Written for WordReply {
     }
 }
 
-/// Writes what each line of a step on a remove lock begins with: the step's name and the lock, behind a text, and what
-/// the step was answered, its seat and its place.
-fn put_locked(
-    out: &mut Vec<u8>,
-    before: &str,
-    lock: LockNo,
-    line: &WordLine,
-) -> Result<(), AllocError>
-    ensures { OnOk result (out.new.items ≡ out.old.items
-        ++ (before.now ++ locked_text lock line.now)) }
-{
-    put(out, before, &lock)?;
-    put(out, ",\"reply\":", &line.reply)?;
-    put(out, ",\"seat\":", &line.seat)?;
-    put(out, ",\"step\":", &line.step)
+/// Writes the line of a step on a remove lock: its name and the lock, behind a text, what it was answered, its seat,
+/// its place and these numbers.
+macro_rules! on_lock {
+    ($out:ident, $line:ident, $before:literal, $lock:expr $(, $key:literal $number:expr)*) => {
+        row!($out, $before Lock(Some($lock)), ",\"reply\":" Reply($line.reply),
+            ",\"seat\":" Number($line.seat as u64), ",\"step\":" Number($line.step as u64)
+            $(, $key Number($number as u64))*)
+    };
 }
 
 /// Writes the line of a step on a cancel slot, whose name stands in the text before.
-fn put_slot(out: &mut Vec<u8>, before: &str, slot: u32, line: &WordLine) -> Result<(), AllocError>
-    ensures { OnOk result (out.new.items ≡ out.old.items
-        ++ (before.now ++ slot_text slot line.now)) }
-{
-    put(out, before, &line.reply)?;
-    put(out, ",\"seat\":", &line.seat)?;
-    put_two(out, ",\"slot\":", &slot, ",\"step\":", &line.step, "}")
+macro_rules! on_slot {
+    ($out:ident, $line:ident, $before:literal, $slot:expr) => {
+        row!($out, $before Reply($line.reply), ",\"seat\":" Number($line.seat as u64),
+            ",\"slot\":" Number($slot as u64), ",\"step\":" Number($line.step as u64))
+    };
 }
 
 impl Written for WordLine {
     ghost json = { word_json };
 
     fn write(&self, out: &mut Vec<u8>) -> Result<(), AllocError> {
-        match self.act {
+        let line = *self;
+        match line.act {
             Act::OnLock(LockAct::Acquire { lock, tag }) => {
-                put_locked(out, "{\"do\":\"acquire\",\"lock\":", lock, self)?;
-                put_one(out, ",\"tag\":", &tag, "}")
+                on_lock!(out, line, "{\"do\":\"acquire\",\"lock\":", lock, ",\"tag\":" tag)
             }
             Act::OnLock(LockAct::Release { lock, tag }) => {
-                put_locked(out, "{\"do\":\"release\",\"lock\":", lock, self)?;
-                put_one(out, ",\"tag\":", &tag, "}")
+                on_lock!(out, line, "{\"do\":\"release\",\"lock\":", lock, ",\"tag\":" tag)
             }
             Act::OnLock(LockAct::BeginRemove { lock, tag }) => {
-                put_locked(out, "{\"do\":\"begin_remove\",\"lock\":", lock, self)?;
-                put_one(out, ",\"tag\":", &tag, "}")
+                on_lock!(out, line, "{\"do\":\"begin_remove\",\"lock\":", lock, ",\"tag\":" tag)
             }
             Act::OnLock(LockAct::Drained { lock }) => {
-                put_locked(out, "{\"do\":\"drained\",\"lock\":", lock, self)?;
-                put_text(out, "}")
+                on_lock!(out, line, "{\"do\":\"drained\",\"lock\":", lock)
             }
-            Act::Hand(hand) => {
-                put_locked(out, "{\"do\":\"hand\",\"lock\":", hand.lock, self)?;
-                put_two(out, ",\"tag\":", &hand.tag, ",\"to\":", &hand.to, "}")
+            Act::Hand(Hand { lock, tag, to }) => {
+                on_lock!(out, line, "{\"do\":\"hand\",\"lock\":", lock, ",\"tag\":" tag, ",\"to\":" to)
             }
             Act::OnSlot(SlotAct::Publish { slot }) => {
-                put_slot(out, "{\"do\":\"publish\",\"reply\":", slot, self)
+                on_slot!(out, line, "{\"do\":\"publish\",\"reply\":", slot)
             }
             Act::OnSlot(SlotAct::Withdraw { slot }) => {
-                put_slot(out, "{\"do\":\"withdraw\",\"reply\":", slot, self)
+                on_slot!(out, line, "{\"do\":\"withdraw\",\"reply\":", slot)
             }
             Act::OnSlot(SlotAct::Request { slot }) => {
-                put_slot(out, "{\"do\":\"request\",\"reply\":", slot, self)
+                on_slot!(out, line, "{\"do\":\"request\",\"reply\":", slot)
             }
             Act::FinishTaken { slot } => {
-                put_slot(out, "{\"do\":\"finish_taken\",\"reply\":", slot, self)
+                on_slot!(out, line, "{\"do\":\"finish_taken\",\"reply\":", slot)
             }
         }
     }

@@ -8,7 +8,7 @@ ghost use Rattle.irp_transcript_writer.specs.Lines.{header_lines, lines, text_of
 ghost use Rattle.irp_transcript_writer.specs.Puts.{CountsFault, PutsText, Stopped};
 
 use crate::form::{Written, write_line};
-use crate::out::{Out, put_all};
+use irp_streams::{Out, put_all};
 use irp_transcript::{Header, Transcript};
 use std::alloc::Global;
 use thiserror::Error;

@@ -8,8 +8,8 @@ use Rattle.irp_types.specs.declared.names.IrpRef.{IrpRef}
 use Rattle.irp_transcript.specs.Transcripts.{TranscriptValue}
 use Rattle.irp_transcript.specs.declared.header.Header.{Header}
 use Rattle.irp_transcript.specs.declared.word_line.WordLine.{WordLine}
-use Rattle.irp_fast_reader.specs.Fed.{with_line}
-use Rattle.irp_fast_reader.specs.declared.line.Line.TheVariants.{Entry as EntryLine, Word as WordOf}
+use Rattle.irp_transcript_reader.specs.Reading.{with_line}
+use Rattle.irp_transcript_reader.specs.declared.line.Line.TheVariants.{Entry as EntryLine, Word as WordOf}
 use Rattle.irp_listing.specs.Lines.{further_of}
 use Rattle.irp_listing.specs.Listing.{AddsChosen, AddsWordLine, IsListing, are_none, heading_above}
 use Rattle.irp_listing.proofs.Chosen.{one_more}

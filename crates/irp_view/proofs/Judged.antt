@@ -9,9 +9,10 @@ use Rattle.irp_judge.specs.Judging.{HasJudged, JudgeValue}
 use Rattle.irp_transcript.specs.Headers.{fixed_of}
 use Rattle.irp_transcript.specs.Transcripts.{TranscriptValue, no_lines}
 use Rattle.irp_transcript.specs.declared.header.Header.{Header}
-use Rattle.irp_fast_reader.specs.Fed.{IsInPlace, with_line}
-use Rattle.irp_fast_reader.specs.declared.line.Line.{Line}
-use Rattle.irp_fast_reader.specs.declared.line.Line.TheVariants.{Header as HeaderLine}
+use Rattle.irp_fast_reader.specs.Fed.{IsInPlace}
+use Rattle.irp_transcript_reader.specs.Reading.{with_line}
+use Rattle.irp_transcript_reader.specs.declared.line.Line.{Line}
+use Rattle.irp_transcript_reader.specs.declared.line.Line.TheVariants.{Header as HeaderLine}
 use Rattle.irp_feed.specs.Input.{Bytes}
 use Rattle.irp_feed.proofs.Fed.{header_stays}
 use Rattle.irp_judge.specs.declared.verdict.Verdict.TheVariants.{Illegal}

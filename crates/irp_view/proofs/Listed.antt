@@ -1,19 +1,17 @@
 -- A transcript that is shown while its text is read, block after block.
 use Rattle.std.proofs.Common.{◌≡◌, ℕ, ◌+◌, List, [], ◌++◌, length, Option, Some, None, OnOk, Result, Ok, Err, refl, sym, subst, ap, ◌∙◌, append_assoc, append-nil, arith, length-append}
-use Rattle.std.specs.Io.KnownBytes.{IsAtEnd}
 use Rattle.irp_types.specs.declared.names.IrpRef.{IrpRef}
 use Rattle.irp_transcript.specs.Transcripts.{TranscriptValue, no_lines}
 use Rattle.irp_transcript.specs.declared.header.Header.{Header}
-use Rattle.irp_transcript_reader.specs.Reading.{cut}
-use Rattle.irp_transcript_writer.proofs.Puts.{appends_none, appends_then}
-use Rattle.irp_fast_reader.specs.Fed.{HasRead, with_line}
-use Rattle.irp_fast_reader.specs.declared.line.Line.TheVariants.{Header as HeaderLine}
+use Rattle.irp_transcript_reader.specs.Reading.{cut, with_line}
+use Rattle.irp_streams.proofs.Pieces.{appends_none, appends_then}
+use Rattle.irp_fast_reader.specs.Fed.{HasRead}
+use Rattle.irp_transcript_reader.specs.declared.line.Line.TheVariants.{Header as HeaderLine}
 use Rattle.irp_fast_reader.specs.declared.reader.Reader.{Reader}
-use Rattle.irp_feed.specs.Feeding.{AreAllBefore, AreTakenBefore, FailsBehind, IsSoFar, IsTextOfNone, StartsNone}
-use Rattle.irp_feed.specs.Input.{Bytes, Holds, IsTextOf, TakesAtMost}
+use Rattle.irp_feed.specs.Feeding.{AreAllBefore, AreTakenBefore, FailsBehind, IsSoFar, StartsNone}
+use Rattle.irp_feed.specs.Input.{Bytes, Holds, IsInput, IsTextOf}
 use Rattle.irp_feed.specs.declared.unfed.Unfed.{Unfed}
-use Rattle.irp_feed.proofs.Fed.{is_input, none_of_end, say_all, say_more}
-use Rattle.irp_feed.proofs.Pieces.{reads_on}
+use Rattle.irp_feed.proofs.Fed.{say_all, say_more}
 use Rattle.irp_listing.specs.Writing.{BreaksOff, Written, count_after}
 use Rattle.irp_listing.specs.declared.writing.Unwritten.{Unwritten}
 use Rattle.irp_view.specs.Listed.{Aim, AreGathered, AreShown, AreShownBefore, AreShownUpTo, BreaksAt, Chosen, GathersBlock, HasGathered, IsFresh, IsGathered, SendsInput, ShowsAllBefore, ShowsFirst, ShowsInput, StopsAt, Taken, aim_of, taken_of}
@@ -218,37 +216,25 @@ pub broken_shown : (chosen : Chosen) (fault : Unwritten) (start now : Bytes) (le
 broken_shown chosen fault start now left text old new so_far are =
     record { text = text; few = omega (arith, so_far.count); took = so_far.took; shown = are }
 
--- the next block couldn't be taken
-pub input_shown : (chosen : Chosen) (taken : Taken) (start now next : Bytes) (left : ℕ) (old new : Output)
-    → IsSoFar start now left taken.text → TakesAtMost (left + 1) now next → AreShown chosen taken old new
-    → StopsAt chosen None (streams_of start old) (streams_of next new)
-input_shown chosen taken start now next left old new so_far more are = record {
-  text = taken.text ++ more.0;
-  few = omega (arith, length-append taken.text more.0, so_far.count, more.1);
-  took = reads_on taken.text more.0 start now next so_far.took more.2;
-  none = tt;
-  shown = shown_before chosen None taken more.0 old new tt are;
-}
-
--- the text has no newline at its end
-pub end_refused : (chosen : Chosen) (line : Option ℕ) (taken : Taken) (start now : Bytes) (left : ℕ) (old new : Output)
-    → IsSoFar start now left taken.text → IsAtEnd now → IsTextOfNone taken.text line → AreAllBefore line (length (cut taken.text).0) → AreShown chosen taken old new
+-- the text isn't read on behind the lines that were shown
+pub unread_shown : (chosen : Chosen) (line : Option ℕ) (taken : Taken) (start now : Bytes) (old new : Output)
+    → FailsBehind taken.text start now line → AreAllBefore line (length (cut taken.text).0) → AreShown chosen taken old new
     → StopsAt chosen line (streams_of start old) (streams_of now new)
-end_refused chosen line taken start now left old new so_far end none all are = record {
-  text = taken.text;
-  few = omega (arith, so_far.count);
-  took = so_far.took;
-  none = none_of_end line start now taken.text (is_input start now left taken.text so_far end) none;
-  shown = subst (λ (text : List ℕ). AreShownBefore chosen line text old new) (append-nil taken.text) (shown_before chosen line taken [] old new all are);
+unread_shown chosen line taken start now old new fails all are = record {
+  text = taken.text ++ fails.more;
+  few = fails.few;
+  took = fails.took;
+  none = fails.none;
+  shown = shown_before chosen line taken fails.more old new all are;
 }
 
 -- the text is a transcript's
-pub end_shown : (chosen : Chosen) (taken : Taken) (start now : Bytes) (left : ℕ) (old new : Output)
-    → IsSoFar start now left taken.text → IsAtEnd now → (are : AreShown chosen taken old new) → IsTextOf taken.text are.gathered.transcript
+pub end_shown : (chosen : Chosen) (taken : Taken) (start now : Bytes) (old new : Output)
+    → (are : AreShown chosen taken old new) → IsInput start now taken.text × IsTextOf taken.text are.gathered.transcript
     → SendsInput (Ok tt) chosen (streams_of start old) (streams_of now new)
-end_shown chosen taken start now left old new so_far end are is = (
+end_shown chosen taken start now old new are is = (
   are.gathered.transcript,
-  (taken.text, is_input start now left taken.text so_far end, is),
+  (taken.text, is.0, is.1),
   record {
     text = are.sent;
     is = subst (IsShowing chosen.only chosen.span are.gathered.transcript) (ap (λ (given : List ℕ). are.sent ++ given) are.none ∙ append-nil are.sent) are.gathered.are.is.shows;

@@ -5,6 +5,11 @@ use Rattle.irp_judge.specs.declared.verdict.Verdict.{Verdict}
 use Rattle.irp_judge.specs.declared.verdict.Verdict.TheVariants as verdict
 use Rattle.irp_listing.specs.declared.writing.Unwritten.{Unwritten}
 use Rattle.irp_listing.specs.declared.writing.Unwritten.TheVariants as unwritten
+use Rattle.irp_program.specs.Opening.{reason_text}
+use Rattle.irp_program.specs.declared.opening.Unopened.{Unopened}
+use Rattle.irp_program.specs.declared.opening.Unopened.TheVariants as unopened
+use Rattle.irp_program.specs.declared.words.Unasked.{Unasked}
+use Rattle.irp_program.specs.declared.words.Unasked.TheVariants as unasked
 use Rattle.irp_view.specs.Refusals.{expected_text}
 use Rattle.irp_view.specs.declared.ending.Ending.{Ending}
 use Rattle.irp_view.specs.declared.ending.Ending.TheVariants.{
@@ -16,12 +21,8 @@ use Rattle.irp_view.specs.declared.ending.Ending.TheVariants.{
   NoFile,
   Failed,
 }
-use Rattle.irp_view.specs.declared.ending.NoOpen.{NoOpen}
-use Rattle.irp_view.specs.declared.ending.NoOpen.TheVariants.{Missing, Denied, Other}
 use Rattle.irp_view.specs.declared.listing.Unshown.{Unshown}
 use Rattle.irp_view.specs.declared.listing.Unshown.TheVariants as unshown
-use Rattle.irp_view.specs.declared.orders.Unasked.{Unasked}
-use Rattle.irp_view.specs.declared.orders.Unasked.TheVariants as unasked
 use Rattle.irp_view.specs.declared.reading.Unread.{Unread}
 use Rattle.irp_view.specs.declared.reading.Unread.TheVariants as unread
 
@@ -31,6 +32,11 @@ use Rattle.irp_view.specs.declared.reading.Unread.TheVariants as unread
 abbrev pub of_words : Unasked → Ending
 of_words unasked.Usage = OtherWords
 of_words unasked.NoMemory = NoMemory
+
+-- a file that isn't opened
+abbrev pub of_unopened : Unopened → Ending
+of_unopened (unopened.NoFile name reason) = NoFile name reason
+of_unopened unopened.NoMemory = NoMemory
 
 -- no transcript
 abbrev pub of_unread : Unread → Ending
@@ -75,12 +81,6 @@ abbrev pub has_line : Ending → Bool
 has_line Done = false
 has_line Wrong = false
 has_line ending = true
-
--- why a file isn't opened
-abbrev pub reason_text : NoOpen → List ℕ
-reason_text Missing = codes "there is no such file"
-reason_text Denied = codes "it may not be read"
-reason_text Other = codes "the system refuses it"
 
 -- the line for standard error, without its newline
 abbrev pub complaint_of : Ending → Option (List ℕ)

@@ -15,14 +15,17 @@ pub struct CauseWords {
 
 impl fmt::Display for CauseWords {
     fn fmt<W: fmt::Write>(&self, f: &mut fmt::Formatter<W>) -> fmt::Result {
-        let Reply::Refused(refusal) = self.reply else {
-            return Ok(());
-        };
-        f.write_str(meaning(self.call, refusal, self.cause))?;
-        if !matches!(self.cause, Cause::Nothing) {
-            write!(f, ": {}", StateWords(self.cause))?;
+        let CauseWords { call, reply, cause } = *self;
+        match reply {
+            Reply::Refused(refusal) => write!(
+                f,
+                "{}{}{}",
+                meaning(call, refusal, cause),
+                StateWords(cause),
+                WindowsWords(call, refusal)
+            ),
+            _ => Ok(()),
         }
-        write!(f, "{}", WindowsWords(self.call, refusal))
     }
 }
 
@@ -50,7 +53,7 @@ impl fmt::Display for WindowsWords {
     }
 }
 
-/// What of the manager's state a refusal comes from.
+/// What of the manager's state a refusal comes from, behind a colon; nothing where it comes from the call alone.
 #[derive(Clone, Copy)]
 struct StateWords(Cause);
 
@@ -58,37 +61,36 @@ impl fmt::Display for StateWords {
     fn fmt<W: fmt::Write>(&self, f: &mut fmt::Formatter<W>) -> fmt::Result {
         match self.0 {
             Cause::Nothing => Ok(()),
-            Cause::Use(number) => write!(f, "the slot's packet is in use {}", number),
-            Cause::Owner(owner) => write!(f, "{}", OwnerWords(owner)),
+            Cause::Use(number) => write!(f, ": the slot's packet is in use {}", number),
+            Cause::Owner(owner) => write!(f, ": {}", OwnerWords(owner)),
             Cause::Location { current, size } => {
-                write!(f, "current location {}, size {}", current, size)
+                write!(f, ": current location {}, size {}", current, size)
             }
             Cause::Room {
                 current,
                 size,
                 needed,
-            } => {
-                write!(f, "current location {}, size {}", current, size)?;
-                write!(f, ", needed below it {}", needed)
-            }
-            Cause::Lower(None) => f.write_str("nothing stands below the sender"),
+            } => write!(
+                f,
+                ": current location {}, size {}, needed below it {}",
+                current, size, needed
+            ),
+            Cause::Lower(None) => f.write_str(": nothing stands below the sender"),
             Cause::Lower(Some(device)) => {
-                write!(f, "just below the sender stands D{}", device.0)
+                write!(f, ": just below the sender stands D{}", device.0)
             }
-            Cause::CancelRoutine(id) => write!(f, "{} is set", CancelWords(id)),
-            Cause::Neighbours { lower, upper } => {
-                write!(
-                    f,
-                    "below it {}, above it {}",
-                    Neighbour(lower),
-                    Neighbour(upper)
-                )
-            }
-            Cause::Devices(count) => write!(f, "devices created: {}", count),
-            Cause::Stack(count) => write!(f, "devices in the stack: {}", count),
-            Cause::Lock(lock) => write!(f, "remove lock {}", lock.0),
+            Cause::CancelRoutine(id) => write!(f, ": {} is set", CancelWords(id)),
+            Cause::Neighbours { lower, upper } => write!(
+                f,
+                ": below it {}, above it {}",
+                Neighbour(lower),
+                Neighbour(upper)
+            ),
+            Cause::Devices(count) => write!(f, ": devices created: {}", count),
+            Cause::Stack(count) => write!(f, ": devices in the stack: {}", count),
+            Cause::Lock(lock) => write!(f, ": remove lock {}", lock.0),
             Cause::Packets { live, next_use } => {
-                write!(f, "live packets: {}, next use number {}", live, next_use)
+                write!(f, ": live packets: {}, next use number {}", live, next_use)
             }
         }
     }

@@ -5,7 +5,7 @@ ghost use Rattle.std.specs.Option.{option_copied};
 ghost use Rattle.irp_judge.specs.Checked.{IsExplained};
 ghost use Rattle.irp_page.specs.Drafting.{HasDrafted};
 ghost use Rattle.irp_page.specs.declared.choosing.Choice.{Choice};
-ghost use Rattle.irp_fast_reader.specs.Fed.{with_line};
+ghost use Rattle.irp_transcript_reader.specs.Reading.{with_line};
 ghost use Rattle.irp_transcript.specs.Transcripts.{TranscriptValue};
 ghost use Rattle.irp_view.specs.Drafts.{AreDrafted, choice_of};
 ghost use Rattle.irp_view.specs.Judging.{IsFound};
@@ -17,7 +17,7 @@ use crate::ending::Ending;
 use crate::judging::Judged;
 use irp_fast_reader::Line;
 use irp_page::{Draft, Subject, draw};
-use irp_transcript_writer::Out;
+use irp_streams::Out;
 use std::alloc::{AllocError, Global};
 
 /// Gives a line to a draft, where there is one. The one error is want of memory.

@@ -1,44 +1,15 @@
 //! How the program ends.
 
 ghost use Rattle.std.specs.Prelude.{◌≡◌};
-ghost use Rattle.std.specs.Process.{exit_status};
-ghost use Rattle.irp_view.specs.Ending.{has_line, of_unread, of_unshown, of_unwritten, of_verdict, of_words, status_of};
+ghost use Rattle.irp_view.specs.Ending.{has_line, of_unopened, of_unread, of_unshown, of_unwritten, of_verdict, of_words, status_of};
 
 use crate::listing::Unshown;
-use crate::orders::Unasked;
 use crate::reading::Unread;
 use crate::refusal::Expected;
 use irp_judge::Verdict;
 use irp_listing::Unwritten;
+use irp_program::{NoOpen, Unasked, Unopened};
 use std::fmt;
-use std::process::ExitCode;
-
-/// Why a file isn't opened.
-#[derive(Clone, Copy)]
-pub enum NoOpen {
-    /// There is no such file.
-    Missing,
-    /// It may not be read.
-    Denied,
-    /// The system says something else.
-    Other,
-}
-
-/// Why a file isn't opened, in words.
-impl fmt::Display for NoOpen {
-    ghost use Rattle.std.specs.Prelude.{Some};
-    ghost use Rattle.irp_view.specs.Ending.{reason_text};
-
-    ghost output = { λ reason. Some (reason_text reason) };
-
-    fn fmt<W: fmt::Write>(&self, f: &mut fmt::Formatter<W>) -> fmt::Result {
-        match self {
-            NoOpen::Missing => f.write_str("there is no such file"),
-            NoOpen::Denied => f.write_str("it may not be read"),
-            NoOpen::Other => f.write_str("the system refuses it"),
-        }
-    }
-}
 
 /// How the program ends: its exit status, and the line for standard error (this project's own command line).
 #[derive(Drop)]
@@ -72,13 +43,6 @@ impl Ending {
             Ending::OtherWords => 4,
             Ending::NoFile { .. } | Ending::Failed => 5,
         }
-    }
-
-    /// The exit status, as a process ends with it.
-    pub fn code(&self) -> ExitCode
-        ensures { exit_status result ≡ status_of self.now }
-    {
-        ExitCode::from(self.status())
     }
 
     /// Whether there is a line for standard error.
@@ -120,6 +84,17 @@ impl From<Unasked> for Ending {
         match given {
             Unasked::Usage => Ending::OtherWords,
             Unasked::NoMemory => Ending::NoMemory,
+        }
+    }
+}
+
+impl From<Unopened> for Ending {
+    ghost from_gives = { λ given ending. ending ≡ of_unopened given };
+
+    fn from(given: Unopened) -> Ending {
+        match given {
+            Unopened::NoFile { name, reason } => Ending::NoFile { name, reason },
+            Unopened::NoMemory => Ending::NoMemory,
         }
     }
 }

@@ -5,7 +5,7 @@ ghost use Rattle.irp_view.specs.Streams.{output_of};
 
 use crate::ending::Ending;
 use irp_listing::send;
-use irp_transcript_writer::Out;
+use irp_streams::Out;
 
 /// What the help says.
 const HELP: &str = "\

@@ -4,7 +4,8 @@ ghost use Rattle.std.specs.Prelude.{◌≡◌, ◌+◌, ◌<◌, ◌≤◌, ◌^
 ghost use Rattle.irp_types.specs.declared.entry.Entry.{Entry};
 ghost use Rattle.irp_judge.specs.Judges.{seen};
 ghost use Rattle.irp_judge.specs.Judging.{HasJudged};
-ghost use Rattle.irp_fast_reader.specs.Fed.{IsInPlace, with_line};
+ghost use Rattle.irp_fast_reader.specs.Fed.{IsInPlace};
+ghost use Rattle.irp_transcript_reader.specs.Reading.{with_line};
 ghost use Rattle.irp_feed.specs.Feeding.{Starts};
 ghost use Rattle.irp_feed.specs.Input.{Bytes, most_bytes};
 ghost use Rattle.irp_page.specs.declared.choosing.Choice.{Choice};

@@ -24,12 +24,10 @@ use crate::reading::{Unread, unread_behind};
 use crate::refusal::Before;
 use crate::showing::{Shown, Wanted};
 use irp_fast_reader::{Line, Reader};
-use irp_feed::{
-    BLOCK, LineSink, RefusedLine, Start, Unfed, feed_block, read_header, refuse, take_block,
-};
+use irp_feed::{BLOCK, LineSink, Start, Unfed, feed_block, next_block, read_header, refuse};
 use irp_listing::{Choice, Unwritten, send};
+use irp_streams::Out;
 use irp_transcript::Header;
-use irp_transcript_writer::Out;
 use irp_types::IrpRef;
 use std::alloc::{AllocError, Global};
 use std::io::Read;
@@ -168,16 +166,11 @@ fn show_rest<R: Read, O: Out>(
             Err(unsent) => return Err(stop(input, buffer, left, unsent)),
         }
         from = 0;
-        to = match take_block(input, buffer, left) {
-            Ok(count) => count,
-            Err(_) => return Err(Unsent::Unfed(Unfed::Input)),
+        to = match next_block(input, buffer, reader, left) {
+            Ok(Some(count)) => count,
+            Ok(None) => return Ok(()),
+            Err(unfed) => return Err(Unsent::Unfed(unfed)),
         };
-        if to == 0 {
-            return match reader.finish() {
-                Ok(()) => Ok(()),
-                Err(fault) => Err(Unsent::Unfed(Unfed::of(fault, RefusedLine::NoNewline))),
-            };
-        }
         left -= to;
     }
 }

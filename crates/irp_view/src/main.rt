@@ -31,17 +31,16 @@ ghost use Rattle.irp_view.specs.declared.orders.Task.TheVariants.{Why, List as L
 ghost use Rattle.irp_transcript.specs.Transcripts.{TranscriptValue};
 
 use crate::drawing::draw_judged;
-use crate::ending::{Ending, NoOpen};
+use crate::ending::Ending;
 use crate::judging::{Judged, judge_input};
 use crate::listing::show_transcript;
-use crate::orders::{Asked, Order, Span, Task, Unasked};
+use crate::orders::{Asked, Order, Span, Task};
 use irp_page::{Choice, Draft};
-use irp_transcript_writer::{Out, WriterOut};
+use irp_program::{Unasked, open_input, stop, words_of};
+use irp_streams::{Out, WriterOut};
 use irp_types::IrpRef;
 use std::alloc::Global;
-use std::env;
-use std::fs::File;
-use std::io::{self, Read, Write};
+use std::io::{self, Read};
 use std::process::ExitCode;
 
 /// Tells what is wrong with a transcript that was judged.
@@ -132,46 +131,24 @@ fn run<R: Read, O: Out>(
     }
 }
 
-/// How the program ends where the file of this name can't be opened.
-fn no_file(alloc: Global, name: &str, kind: io::ErrorKind) -> Ending {
-    let reason = match kind {
-        io::ErrorKind::NotFound => NoOpen::Missing,
-        io::ErrorKind::PermissionDenied => NoOpen::Denied,
-        _ => NoOpen::Other,
-    };
-    match name.to_string(alloc) {
-        Ok(name) => Ending::NoFile { name, reason },
-        Err(_) => Ending::NoMemory,
-    }
-}
-
 /// Does what is asked for, with the file or with standard input.
 fn run_on<O: Out>(rt: &HostRuntime, output: &mut O, asked: Asked<'_>) -> Ending {
-    let Some(name) = asked.file else {
-        let mut input = rt.stdin();
-        return run(rt.alloc(), &mut input, output, asked.order, "a history");
-    };
-    match File::open(rt, name) {
-        Ok(mut file) => run(rt.alloc(), &mut file, output, asked.order, name),
-        Err(error) => no_file(rt.alloc(), name, error.kind()),
+    let title = asked.file.unwrap_or("a history");
+    match open_input(rt, asked.file) {
+        Ok(mut input) => run(rt.alloc(), &mut input, output, asked.order, title),
+        Err(unopened) => Ending::from(unopened),
     }
 }
 
-/// The words that the program was given, where a use of a packet is two words. `Usage` where they can't be had, and
-/// `NoMemory` where memory was missing for them.
-fn words_of(rt: &HostRuntime) -> Result<Vec<String>, Unasked> {
-    let words = match env::args(rt) {
-        Ok(words) => words,
-        Err(error) if error.kind() == io::ErrorKind::OutOfMemory => return Err(Unasked::NoMemory),
-        Err(_) => return Err(Unasked::Usage),
-    };
-    let words: Vec<String> = words.collect(rt.alloc())?;
+/// The words that the program was given, where a use of a packet is two words.
+fn parted_words(rt: &HostRuntime) -> Result<Vec<String>, Unasked> {
+    let words = words_of(rt)?;
     Ok(words::with_uses(rt.alloc(), words.as_slice())?)
 }
 
 /// Does what the words ask for.
 fn obey<O: Out>(rt: &HostRuntime, output: &mut O) -> Ending {
-    let words = match words_of(rt) {
+    let words = match parted_words(rt) {
         Ok(words) => words,
         Err(unasked) => return Ending::from(unasked),
     };
@@ -183,9 +160,6 @@ fn obey<O: Out>(rt: &HostRuntime, output: &mut O) -> Ending {
 
 fn main(rt: HostRuntime) -> ExitCode {
     let mut output = WriterOut::new(io::writer(&rt));
-    let mut ending = obey(&rt, &mut output);
-    if ending.has_line() && writeln!(rt.stderr(), "{ending}").is_err() {
-        ending = Ending::Failed;
-    }
-    ending.code()
+    let ending = obey(&rt, &mut output);
+    stop(&rt, ending.status(), ending.has_line(), &ending)
 }

@@ -1,8 +1,7 @@
-//! What the words ask for, and why they may not be taken.
+//! What the words ask for.
 
 use irp_page::Choice;
 use irp_types::IrpRef;
-use std::alloc::AllocError;
 
 /// The entries from one place up to another, which isn't among them; places are counted from 0.
 #[derive(Clone, Copy)]
@@ -39,24 +38,4 @@ pub enum Order {
 pub struct Asked<'a> {
     pub order: Order,
     pub file: Option<&'a str>,
-}
-
-/// Why words ask for nothing.
-#[derive(Clone, Copy)]
-pub enum Unasked {
-    /// The words are none that the program takes.
-    Usage,
-    /// Memory ran out.
-    NoMemory,
-}
-
-impl From<AllocError> for Unasked {
-    ghost use Rattle.std.specs.Prelude.{◌≡◌};
-    ghost use Rattle.irp_view.specs.declared.orders.Unasked.TheVariants.{NoMemory};
-
-    ghost from_gives = { λ _ unasked. unasked ≡ NoMemory };
-
-    fn from(_error: AllocError) -> Unasked {
-        Unasked::NoMemory
-    }
 }

@@ -4,7 +4,7 @@ ghost use Rattle.std.specs.Prelude.{◌≡◌};
 ghost use Rattle.irp_view.specs.Refusals.{plain_text};
 
 use irp_feed::RefusedLine;
-use irp_line_faults::{Before as Bounds, misfit_of};
+use irp_text_faults::{Before as Bounds, line_fault};
 use irp_transcript::{Form, Header};
 use irp_types::limits::MOST_ENTRIES;
 use serde_json::Value;
@@ -106,10 +106,10 @@ fn expected_behind(alloc: Global, before: Before, line: &[u8], value: &Value) ->
     if is_entry && before.words {
         return Expected::NoEntry;
     }
-    match misfit_of(alloc, before.bounds, line, value) {
-        Ok(Some(misfit)) => Expected::Part {
-            column: misfit.column,
-            words: misfit.words,
+    match line_fault(alloc, before.bounds, line) {
+        Ok(Some(fault)) => Expected::Part {
+            column: fault.column,
+            words: fault.words,
         },
         Ok(None) if is_entry && before.entries >= MOST_ENTRIES => Expected::NoMore,
         Ok(None) => Expected::Other,

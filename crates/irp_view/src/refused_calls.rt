@@ -4,7 +4,7 @@ ghost use Rattle.std.specs.Prelude.{◌≡◌, ◌+◌, ◌<◌, ◌≤◌, ◌^
 ghost use Rattle.std.specs.List.{flat_map};
 ghost use Rattle.irp_types.specs.declared.entry.Entry.{Entry};
 ghost use Rattle.irp_judge.specs.Differences.{refusal_in};
-ghost use Rattle.irp_fast_reader.specs.Fed.{with_line};
+ghost use Rattle.irp_transcript_reader.specs.Reading.{with_line};
 ghost use Rattle.irp_transcript.specs.Transcripts.{TranscriptValue};
 ghost use Rattle.irp_view.specs.RefusedCalls.{HasNoted, more_text, most_told, refused_from, refused_line, refused_text};
 

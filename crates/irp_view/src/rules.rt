@@ -7,7 +7,7 @@ use crate::answers::broken_rule;
 use crate::fields::FieldRule;
 use crate::sections::Section;
 use irp_judge::{Difference, QuestionPart};
-use irp_names::{caller_of, refusal_name, rules_name};
+use irp_names::{act_of, caller_of, refusal_name};
 use irp_transcript::Header;
 use irp_types::{Asked, Call, CancelAnswer, Entry, Plan, Reply};
 use std::fmt;
@@ -30,32 +30,14 @@ fn party_checks(call: Call) -> &'static str {
     }
 }
 
-/// The other checks of a call, in order.
-fn own_checks(call: Call) -> &'static str {
-    match call {
-        Call::CreateDevice { .. } => "NoDriver, NoLock, Full",
-        Call::Attach { .. } => {
-            "NoDevice, DeviceGone, NoDevice, DeviceGone, SameStack, StillAttached, TooDeep"
-        }
-        Call::Detach { .. } => "NoDevice, DeviceGone, NothingAttached",
-        Call::Delete { .. } => "NoDevice, DeviceGone, StillAttached, InFlight, NotDrained",
-        Call::Allocate { .. } => "BadSize, Full",
-        Call::Free { .. } => "NoIrp, Stale, InFlight",
-        Call::Reuse { .. } => "NoIrp, Stale, InFlight, Full",
-        Call::SetNext { .. } => "AfterSkip, TooShort, BadMajor",
-        Call::CopyToNext { .. } => "NoLocation, AfterSkip, TooShort",
-        Call::Skip { .. } => "NoLocation, AfterSkip, CancelRoutineSet",
-        Call::SetRoutine { .. } => "AfterSkip, NotPrepared, NoRoutine",
-        Call::MarkPending { .. } => "NoLocation, AfterSkip",
-        Call::CallDriver { .. } => {
-            "NoDevice, DeviceGone, WrongTarget, NotPrepared, TooShort, CancelRoutineSet"
-        }
-        Call::Complete { .. } => "NoLocation, AfterSkip, BadStatus, CancelRoutineSet",
-        Call::FinishTaken { .. } => "NoIrp, Stale, Ended, NotSlotHeld, BadStatus",
-        Call::SetCancelRoutine { .. } => "NoLocation, AfterSkip, NoRoutine, AlreadyCancelled",
-        Call::Cancel { .. } => "NoIrp, Stale, Ended",
-        Call::Look { .. } => "NoIrp, Stale",
-    }
+/// What a call is answered.
+fn reply_rule(call: Call) -> Rule {
+    let section = match call {
+        Call::CallDriver { .. } => Section::SendingDown,
+        Call::Cancel { .. } => Section::Cancelling,
+        _ => Section::Calls,
+    };
+    (act_of(call).answer(), section)
 }
 
 /// The checks of a call, and which of them fails first.
@@ -65,19 +47,20 @@ struct ChecksWords(Call, Reply);
 impl fmt::Display for ChecksWords {
     fn fmt<W: fmt::Write>(&self, f: &mut fmt::Formatter<W>) -> fmt::Result {
         let call = self.0;
+        let act = act_of(call);
+        let (which, name) = match self.1 {
+            Reply::Refused(refusal) => ("the first that fails is ", refusal_name(refusal)),
+            _ => ("none fails", ""),
+        };
         write!(
             f,
-            "{}'s checks are {}",
-            rules_name(call),
-            party_checks(call)
-        )?;
-        f.write_str(own_checks(call))?;
-        match self.1 {
-            Reply::Refused(refusal) => {
-                write!(f, ": the first that fails is {}", refusal_name(refusal))
-            }
-            _ => f.write_str(": none fails"),
-        }
+            "{}'s checks are {}{}: {}{}",
+            act.rules_name(),
+            party_checks(call),
+            act.checks(),
+            which,
+            name
+        )
     }
 }
 
@@ -157,40 +140,6 @@ fn asking_rule(made: &Entry, at: usize) -> Rule {
             Section::Cancelling,
         ),
         None => nobody_rule(made, at),
-    }
-}
-
-/// What a call is answered.
-fn reply_rule(call: Call) -> Rule {
-    match call {
-        Call::CreateDevice { .. } => ("CreateDevice answers the next number", Section::Calls),
-        Call::Attach { .. } => ("Attach answers the former top of the stack", Section::Calls),
-        Call::Detach { .. } => (
-            "Detach answers the device that stood just above",
-            Section::Calls,
-        ),
-        Call::Allocate { .. } => (
-            "Allocate answers a slot that is not live, and the next use number",
-            Section::Calls,
-        ),
-        Call::Reuse { .. } => (
-            "Reuse answers the same slot, and the next use number",
-            Section::Calls,
-        ),
-        Call::CallDriver { .. } => (
-            "PENDING where a dispatch held or pended, else the status of the finish that ended the descent",
-            Section::SendingDown,
-        ),
-        Call::SetCancelRoutine { .. } => (
-            "SetCancelRoutine answers the routine that was set, or none",
-            Section::Calls,
-        ),
-        Call::Cancel { .. } => (
-            "Cancel answers whether there was a cancel routine",
-            Section::Cancelling,
-        ),
-        Call::Look { .. } => ("Look answers what the packet holds", Section::Calls),
-        _ => ("the call answers done", Section::Calls),
     }
 }
 

@@ -3,8 +3,9 @@
 ghost use Rattle.std.specs.Prelude.{ℕ, ◌≡◌, ◌+◌, ◌<◌, ◌^◌, List, [], ◌∷◌, ◌++◌, length, OnOk};
 ghost use Rattle.irp_types.specs.declared.entry.Entry.{Entry};
 ghost use Rattle.irp_transcript.specs.Transcripts.{TranscriptValue};
-ghost use Rattle.irp_fast_reader.specs.Fed.{IsInPlace, with_line};
-ghost use Rattle.irp_fast_reader.specs.declared.line.Line.TheVariants.{Entry as EntryLine, Word as WordOf};
+ghost use Rattle.irp_fast_reader.specs.Fed.{IsInPlace};
+ghost use Rattle.irp_transcript_reader.specs.Reading.{with_line};
+ghost use Rattle.irp_transcript_reader.specs.declared.line.Line.TheVariants.{Entry as EntryLine, Word as WordOf};
 ghost use Rattle.irp_view.specs.Listed.{IsFresh, IsGathered};
 ghost use Rattle.irp_view.specs.Showing.{part_of, with_wanted};
 

@@ -13,8 +13,8 @@ use crate::judging::{Found, Judged};
 use crate::refused_calls::{RefusedCalls, put_refused};
 use irp_judge::{Verdict, Wrong};
 use irp_listing::{Unwritten, put_line, send};
+use irp_streams::Out;
 use irp_transcript::Header;
-use irp_transcript_writer::Out;
 use std::alloc::{AllocError, Global};
 
 /// The noun for so many entries.

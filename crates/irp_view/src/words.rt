@@ -1,9 +1,10 @@
 //! What the command line asks for.
 
-use crate::orders::{Asked, Order, Span, Task, Unasked};
+use crate::orders::{Asked, Order, Span, Task};
 use clap::error::ErrorKind;
 use clap::{Arg, ArgAction, ArgMatches, Command, Error, value_parser};
 use irp_page::Choice;
+use irp_program::Unasked;
 use irp_types::IrpRef;
 use std::alloc::{AllocError, Global};
 use std::convert::AsStr;

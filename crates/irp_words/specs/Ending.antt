@@ -11,13 +11,28 @@ use Rattle.irp_words.specs.declared.ending.Ending.TheVariants.{
   NoFile,
   Failed,
 }
-use Rattle.irp_words.specs.declared.orders.Unasked.{Unasked}
-use Rattle.irp_words.specs.declared.orders.Unasked.TheVariants as unasked
+use Rattle.irp_program.specs.Opening.{reason_text}
+use Rattle.irp_program.specs.declared.opening.Unopened.{Unopened}
+use Rattle.irp_program.specs.declared.opening.Unopened.TheVariants as unopened
+use Rattle.irp_program.specs.declared.words.Unasked.{Unasked}
+use Rattle.irp_program.specs.declared.words.Unasked.TheVariants as unasked
+use Rattle.irp_streams.specs.declared.reading.StreamFault.{StreamFault}
+use Rattle.irp_streams.specs.declared.reading.StreamFault.TheVariants as stream
 
 -- other words, or want of memory for them
 abbrev pub of_words : Unasked → Ending
 of_words unasked.Usage = OtherWords
 of_words unasked.NoMemory = NoMemory
+
+-- a file that isn't opened
+abbrev pub of_unopened : Unopened → Ending
+of_unopened (unopened.NoFile name reason) = NoFile name reason
+of_unopened unopened.NoMemory = NoMemory
+
+-- an input that isn't read
+abbrev pub of_unread : StreamFault → Ending
+of_unread stream.Failed = Failed
+of_unread stream.NoMemory = NoMemory
 
 -- the exit status of an ending
 abbrev pub status_of : Ending → ℕ
@@ -48,5 +63,5 @@ complaint_of NoMemory = Some (codes "irp_words: out of memory")
 complaint_of OtherWords =
     Some (codes "irp_words: usage: irp_words json, words or faults [FILE], or tables; see --help")
 complaint_of (NoFile name reason) =
-    Some (codes "irp_words: " ++ (string_bytes name ++ (codes ": can't be opened: " ++ reason.now)))
+    Some (codes "irp_words: " ++ (string_bytes name ++ (codes ": can't be opened: " ++ reason_text reason)))
 complaint_of Failed = Some (codes "irp_words: input or output failed")

@@ -1,8 +1,9 @@
 //! What the command line asks for.
 
-use crate::orders::{Asked, Order, Task, Unasked};
+use crate::orders::{Asked, Order, Task};
 use clap::error::ErrorKind;
 use clap::{Arg, ArgAction, ArgMatches, Command, Error};
+use irp_program::Unasked;
 use std::alloc::{AllocError, Global};
 use std::convert::AsStr;
 

@@ -1,12 +1,11 @@
 //! How the program ends.
 
 ghost use Rattle.std.specs.Prelude.{◌≡◌};
-ghost use Rattle.std.specs.Process.{exit_status};
-ghost use Rattle.irp_words.specs.Ending.{has_line, of_words, status_of};
+ghost use Rattle.irp_words.specs.Ending.{has_line, of_unopened, of_unread, of_words, status_of};
 
-use crate::orders::Unasked;
+use irp_program::{NoOpen, Unasked, Unopened};
+use irp_streams::StreamFault;
 use std::fmt;
-use std::process::ExitCode;
 
 /// How the program ends: its exit status, and the line for standard error (this project's own command line).
 #[derive(Drop)]
@@ -24,7 +23,7 @@ pub enum Ending {
     /// The words are none that the program takes: status 4.
     OtherWords,
     /// The file of this name can't be opened, for this reason: status 5.
-    NoFile { name: String, reason: &'static str },
+    NoFile { name: String, reason: NoOpen },
     /// The input or the output failed: status 5.
     Failed,
 }
@@ -42,13 +41,6 @@ impl Ending {
             Ending::OtherWords => 4,
             Ending::NoFile { .. } | Ending::Failed => 5,
         }
-    }
-
-    /// The exit status, as a process ends with it.
-    pub fn code(&self) -> ExitCode
-        ensures { exit_status result ≡ status_of self.now }
-    {
-        ExitCode::from(self.status())
     }
 
     /// Whether there is a line for standard error.
@@ -90,6 +82,28 @@ impl From<Unasked> for Ending {
         match given {
             Unasked::Usage => Ending::OtherWords,
             Unasked::NoMemory => Ending::NoMemory,
+        }
+    }
+}
+
+impl From<Unopened> for Ending {
+    ghost from_gives = { λ given ending. ending ≡ of_unopened given };
+
+    fn from(given: Unopened) -> Ending {
+        match given {
+            Unopened::NoFile { name, reason } => Ending::NoFile { name, reason },
+            Unopened::NoMemory => Ending::NoMemory,
+        }
+    }
+}
+
+impl From<StreamFault> for Ending {
+    ghost from_gives = { λ given ending. ending ≡ of_unread given };
+
+    fn from(given: StreamFault) -> Ending {
+        match given {
+            StreamFault::Failed => Ending::Failed,
+            StreamFault::NoMemory => Ending::NoMemory,
         }
     }
 }

@@ -1,7 +1,7 @@
 //! The help.
 
 use crate::ending::Ending;
-use irp_transcript_writer::{Out, put_all};
+use irp_streams::{Out, put_all};
 
 /// What the help says.
 const HELP: &str = "\

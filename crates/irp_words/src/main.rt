@@ -4,7 +4,6 @@
 mod command_line;
 mod ending;
 mod help;
-mod input;
 mod orders;
 mod tables;
 mod telling;
@@ -12,47 +11,32 @@ mod telling;
 ghost use Rattle.irp_words.specs.Telling.{Obeys};
 
 use crate::ending::Ending;
-use crate::input::text_of;
-use crate::orders::{Asked, Order, Task, Unasked};
-use irp_transcript_writer::{Out, WriterOut};
+use crate::orders::{Asked, Order, Task};
+use irp_program::{TOO_MANY_BYTES, open_input, stop, words_of};
+use irp_streams::{Out, WriterOut, read_up_to};
 use std::alloc::Global;
-use std::env;
-use std::fs::File;
-use std::io::{self, Read, Write};
+use std::io::{self, Read};
 use std::process::ExitCode;
 
 /// Does what is asked for: reads a text from the input, and writes to the output; what is wrong with the text goes to
 /// `errors`, but where that was asked for.
-fn run<R: Read + Drop, O: Out, E: Out>(
+fn run<R: Read, O: Out, E: Out>(
     alloc: Global,
-    input: R,
+    input: &mut R,
     output: &mut O,
     errors: &mut E,
     task: Task,
 ) -> Ending
     ensures { Obeys task result (O.gone output.old) (O.gone output.new) }
 {
-    let text = match text_of(alloc, input) {
+    let text = match read_up_to(alloc, input, TOO_MANY_BYTES) {
         Ok(text) => text,
-        Err(ending) => return ending,
+        Err(fault) => return Ending::from(fault),
     };
     match task {
         Task::Json => telling::tell_json(alloc, output, errors, text.as_slice()),
         Task::Words => telling::tell_words(alloc, output, errors, text.as_slice()),
         Task::Faults { strict } => telling::tell_faults(alloc, output, strict, text.as_slice()),
-    }
-}
-
-/// How the program ends where the file of this name can't be opened.
-fn no_file(alloc: Global, name: &str, kind: io::ErrorKind) -> Ending {
-    let reason = match kind {
-        io::ErrorKind::NotFound => "there is no such file",
-        io::ErrorKind::PermissionDenied => "it may not be read",
-        _ => "the system refuses it",
-    };
-    match name.to_string(alloc) {
-        Ok(name) => Ending::NoFile { name, reason },
-        Err(_) => Ending::NoMemory,
     }
 }
 
@@ -68,24 +52,10 @@ fn run_on<O: Out, E: Out>(
         Order::Tables => return tables::tell_tables(rt.alloc(), output),
         Order::Read(task) => task,
     };
-    let Some(name) = asked.file else {
-        return run(rt.alloc(), rt.stdin(), output, errors, task);
-    };
-    match File::open(rt, name) {
-        Ok(file) => run(rt.alloc(), file, output, errors, task),
-        Err(error) => no_file(rt.alloc(), name, error.kind()),
+    match open_input(rt, asked.file) {
+        Ok(mut input) => run(rt.alloc(), &mut input, output, errors, task),
+        Err(unopened) => Ending::from(unopened),
     }
-}
-
-/// The words that the program was given. `Usage` where they can't be had, and `NoMemory` where memory was missing for
-/// them.
-fn words_of(rt: &HostRuntime) -> Result<Vec<String>, Unasked> {
-    let words = match env::args(rt) {
-        Ok(words) => words,
-        Err(error) if error.kind() == io::ErrorKind::OutOfMemory => return Err(Unasked::NoMemory),
-        Err(_) => return Err(Unasked::Usage),
-    };
-    Ok(words.collect(rt.alloc())?)
 }
 
 /// Does what the words ask for.
@@ -103,9 +73,6 @@ fn obey<O: Out, E: Out>(rt: &HostRuntime, output: &mut O, errors: &mut E) -> End
 fn main(rt: HostRuntime) -> ExitCode {
     let mut output = WriterOut::new(io::writer(&rt));
     let mut errors = WriterOut::new(rt.stderr());
-    let mut ending = obey(&rt, &mut output, &mut errors);
-    if ending.has_line() && writeln!(rt.stderr(), "{ending}").is_err() {
-        ending = Ending::Failed;
-    }
-    ending.code()
+    let ending = obey(&rt, &mut output, &mut errors);
+    stop(&rt, ending.status(), ending.has_line(), &ending)
 }

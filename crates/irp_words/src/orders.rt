@@ -1,6 +1,4 @@
-//! What the words ask for, and why they may not be taken.
-
-use std::alloc::AllocError;
+//! What the words ask for.
 
 /// What is done with a text (this project's own command line).
 #[derive(Clone, Copy)]
@@ -29,24 +27,4 @@ pub enum Order {
 pub struct Asked<'a> {
     pub order: Order,
     pub file: Option<&'a str>,
-}
-
-/// Why words ask for nothing.
-#[derive(Clone, Copy)]
-pub enum Unasked {
-    /// The words are none that the program takes.
-    Usage,
-    /// Memory ran out.
-    NoMemory,
-}
-
-impl From<AllocError> for Unasked {
-    ghost use Rattle.std.specs.Prelude.{◌≡◌};
-    ghost use Rattle.irp_words.specs.declared.orders.Unasked.TheVariants.{NoMemory};
-
-    ghost from_gives = { λ _ unasked. unasked ≡ NoMemory };
-
-    fn from(_error: AllocError) -> Unasked {
-        Unasked::NoMemory
-    }
 }

@@ -10,7 +10,7 @@ use irp_names::{
     Act, act_of, major_name, minor_name, plan_names, refusal_meaning, rule_names, status_names,
     windows_name,
 };
-use irp_transcript_writer::{Out, put_all};
+use irp_streams::{Out, put_all};
 use irp_types::limits::LAST_MAJOR;
 use irp_types::{Call, DeviceId, IrpRef, Party, Refusal, Status};
 use std::alloc::{AllocError, Global};

@@ -7,8 +7,8 @@ use Rattle.irp_judge.specs.declared.verdict.Verdict.TheVariants.{Legal}
 use Rattle.irp_transcript.specs.Headers.{fixed_of}
 use Rattle.irp_transcript.specs.Transcripts.{TranscriptValue, no_lines}
 use Rattle.irp_transcript.specs.declared.header.Header.{Header}
-use Rattle.irp_fast_reader.specs.Fed.{with_line}
-use Rattle.irp_fast_reader.specs.declared.line.Line.TheVariants.{Header as HeaderLine}
+use Rattle.irp_transcript_reader.specs.Reading.{with_line}
+use Rattle.irp_transcript_reader.specs.declared.line.Line.TheVariants.{Header as HeaderLine}
 use Rattle.irp_feed.specs.Input.{Holds}
 use Rattle.irp_feed.specs.Feeding.{StartsNone, refused_line}
 use Rattle.irp_feed.specs.Feeding as feed
@@ -17,7 +17,7 @@ use Rattle.irp_feed.specs.declared.unfed.Unfed.TheVariants as unfed
 use Rattle.irp_feed.proofs.Fed.{fails_at_start}
 use Rattle.irpx.specs.Checking.{HasVerdict}
 use Rattle.irpx.specs.Judging.{Fails, IsJudged, refusal_of}
-use Rattle.irpx.specs.Streams.{Bytes}
+use Rattle.irp_streams.specs.Streams.{Bytes}
 
 -- behind the header nothing was judged
 pub starts_judged : (judge : JudgeValue) (header : Header) → judge.header ≡ header → HasJudged judge [] → IsJudged judge (with_line no_lines (HeaderLine header))

@@ -1,5 +1,4 @@
 pub mod Adding
-pub mod AtSlots
 pub mod CommandLine
 pub mod Judged
 pub mod OneSeat

@@ -7,7 +7,8 @@ use Rattle.irp_judge.specs.Checked.{IsVerdictOn}
 use Rattle.irp_judge.specs.declared.verdict.Verdict.{Verdict}
 use Rattle.irp_judge.specs.declared.verdict.Verdict.TheVariants as verdict
 use Rattle.irp_feed.specs.Input.{IsInput, IsRefused}
-use Rattle.irpx.specs.Streams.{Bytes, IsQuiet, IsReadingFault, Output, Streams}
+use Rattle.irp_streams.specs.Streams.{Bytes, IsQuiet, Output, Streams}
+use Rattle.irpx.specs.Ending.{IsReadingFault}
 use Rattle.irpx.specs.Writing.{BreaksOff, Written}
 use Rattle.irpx.specs.declared.not_done.NotDone.{NotDone}
 use Rattle.irpx.specs.declared.not_done.NotDone.TheVariants.{NoMemory, Output as Failed, RefusedLine}

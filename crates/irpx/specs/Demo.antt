@@ -18,7 +18,7 @@ use Rattle.irp_types.specs.declared.names.DeviceId.{DeviceId}
 use Rattle.irp_transcript.specs.Headers.{fixed_of, IsHeader}
 use Rattle.irp_transcript.specs.Transcripts.{TranscriptValue}
 use Rattle.irp_transcript.specs.declared.header.Header.{Header}
-use Rattle.irpx.specs.Streams.{IsQuiet, Output}
+use Rattle.irp_streams.specs.Streams.{IsQuiet, Output}
 use Rattle.irpx.specs.Writing.{Prints, StopsShort}
 use Rattle.irpx.specs.declared.not_done.NotDone.{NotDone}
 use Rattle.irpx.specs.declared.not_done.NotDone.TheVariants.{NoMemory}

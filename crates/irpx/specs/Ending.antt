@@ -8,8 +8,15 @@ use Rattle.irpx.specs.declared.ending.Ending.{Ending}
 use Rattle.irpx.specs.declared.ending.Ending.TheVariants.{Done, Illegal, Faulty}
 use Rattle.irpx.specs.declared.not_done.NotDone.{NotDone}
 use Rattle.irpx.specs.declared.not_done.NotDone.TheVariants as fault
+use Rattle.irpx.specs.declared.not_done.Phase.TheVariants.{Reading}
 
 -- ---- what a result ends with
+
+-- why a text isn't had from the input: it failed, or memory ran out
+abbrev pub IsReadingFault : NotDone → Type 0
+IsReadingFault fault.Input = Unit {0}
+IsReadingFault (fault.NoMemory Reading) = Unit {0}
+IsReadingFault other = ⊥
 
 -- by what its value ends with; a fault with itself
 abbrev pub ending_of : {T : Type 0} → (T → Ending) → Result T NotDone → Ending

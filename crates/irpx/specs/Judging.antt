@@ -7,7 +7,7 @@ use Rattle.irp_feed.specs.Input.{most_taken}
 use Rattle.irp_feed.specs.declared.unfed.Unfed.{Unfed}
 use Rattle.irp_feed.specs.declared.unfed.Unfed.TheVariants as unfed
 use Rattle.irpx.specs.Checking.{HasVerdict, NotRead}
-use Rattle.irpx.specs.Streams.{Bytes, TakesAtMost}
+use Rattle.irp_streams.specs.Streams.{Bytes, TakesAtMost}
 use Rattle.irpx.specs.declared.not_done.NotDone.{NotDone}
 use Rattle.irpx.specs.declared.not_done.NotDone.TheVariants.{Input, RefusedLine, NoMemory}
 use Rattle.irpx.specs.declared.not_done.Phase.TheVariants.{Reading}

@@ -5,5 +5,4 @@ pub mod Ending
 pub mod Judging
 pub mod Program
 pub mod Running
-pub mod Streams
 pub mod Writing

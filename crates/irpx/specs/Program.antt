@@ -6,7 +6,7 @@ use Rattle.irpx.specs.Checking.{Checks}
 use Rattle.irpx.specs.Demo.{AfterDemo}
 use Rattle.irpx.specs.Ending.{done, ending_of, of_verdict}
 use Rattle.irpx.specs.Running.{AfterRun, most_taken as most_run}
-use Rattle.irpx.specs.Streams.{IsQuiet, Streams, TakesAtMost}
+use Rattle.irp_streams.specs.Streams.{IsQuiet, Streams, TakesAtMost}
 use Rattle.irpx.specs.declared.ending.Ending.{Ending}
 use Rattle.irpx.specs.declared.ending.Ending.TheVariants.{Faulty}
 use Rattle.irpx.specs.declared.not_done.NotDone.{NotDone}

@@ -52,7 +52,8 @@ use Rattle.irp_script.specs.Told.{IsTold}
 use Rattle.irp_script.specs.Words.{AreInOrder, told_by, word_steps}
 use Rattle.irp_script.specs.Ran.{Ran}
 use Rattle.irp_script.specs.declared.stop.Stop.{Stop}
-use Rattle.irpx.specs.Streams.{Bytes, IsQuiet, IsReadingFault, Output, Streams}
+use Rattle.irp_streams.specs.Streams.{Bytes, IsQuiet, Output, Streams}
+use Rattle.irpx.specs.Ending.{IsReadingFault}
 use Rattle.irpx.specs.Writing.{Prints, StopsShort}
 use Rattle.irpx.specs.declared.not_done.NotDone.{NotDone}
 use Rattle.irpx.specs.declared.not_done.NotDone.TheVariants.{

@@ -3,10 +3,10 @@ use Rattle.std.specs.Prelude.{ℕ, ◌≡◌, List}
 use Rattle.std.specs.Io.KnownBytes.{Appends}
 use Rattle.irp_transcript.specs.Transcripts.{TranscriptValue}
 use Rattle.irp_transcript_writer.specs.Lines.{lines, text_of}
-use Rattle.irp_transcript_writer.specs.Out.{risen}
+use Rattle.irp_streams.specs.Out.{risen}
 use Rattle.irp_fast_reader.specs.Fits.{Fits}
 use Rattle.irp_fast_reader.specs.Fitting.{Begins, IsReadBack, StopsAt}
-use Rattle.irpx.specs.Streams.{Output}
+use Rattle.irp_streams.specs.Streams.{Output}
 use Rattle.irpx.specs.declared.not_done.NotDone.{NotDone}
 use Rattle.irpx.specs.declared.not_done.NotDone.TheVariants as fault
 use Rattle.irpx.specs.declared.not_done.Phase.TheVariants.{Writing}

@@ -4,14 +4,14 @@ ghost use Rattle.std.specs.Prelude.{IfErr, IfOk, OnOk, ◌≡◌};
 ghost use Rattle.irp_feed.specs.Input.{most_taken};
 ghost use Rattle.irpx.specs.Checking.{Checks, Told, Untold, verdict_line};
 ghost use Rattle.irpx.specs.Judging.{Ends};
-ghost use Rattle.irpx.specs.Streams.{TakesAtMost, output_of, streams_of};
+ghost use Rattle.irp_streams.specs.Streams.{TakesAtMost, output_of, streams_of};
 
 use crate::judging::{judge_rest, refusal};
 use crate::not_done::{NotDone, Phase};
 use irp_fast_reader::Reader;
 use irp_feed::{BLOCK, read_header};
 use irp_judge::Verdict;
-use irp_transcript_writer::{Out, put_all};
+use irp_streams::{Out, put_all};
 use std::alloc::{AllocError, Global};
 use std::io::Read;
 

@@ -5,13 +5,13 @@ ghost use Rattle.irp_types.specs.declared.limit.Limit.TheVariants.{Sixteen};
 ghost use Rattle.irp_shared.specs.Answered.{AnswersSo};
 ghost use Rattle.irp_transcript.specs.Tokens.{needs_token};
 ghost use Rattle.irpx.specs.Demo.{calls_of, AfterDemo, AreDemoCalls, IsDemoTranscript};
-ghost use Rattle.irpx.specs.Streams.{output_of};
+ghost use Rattle.irp_streams.specs.Streams.{output_of};
 
 use crate::not_done::{NotDone, Phase};
 use crate::writing::write;
 use irp_routines::{Ask, Dispatch, Store};
 use irp_shared::{Seat, Session, Shared, Transcript, open_with_limit};
-use irp_transcript_writer::Out;
+use irp_streams::Out;
 use irp_types::{
     Call, DispatchId, DriverId, Known, KnowsNothing, Limit, LockNo, Party, Plan, Reply, Shown,
     Status,

@@ -1,12 +1,10 @@
 //! How the program ends.
 
 ghost use Rattle.std.specs.Prelude.{◌≡◌};
-ghost use Rattle.std.specs.Process.{exit_status};
 ghost use Rattle.irpx.specs.Ending.{done, ending_of, of_verdict, status_of};
 
 use crate::not_done::NotDone;
 use irp_judge::Verdict;
-use std::process::ExitCode;
 
 /// How the program ends (this project's own command line, README.md).
 #[derive(Clone, Copy)]
@@ -50,12 +48,5 @@ impl Ending {
             Ending::Illegal => 2,
             Ending::Faulty(fault) => fault.status(),
         }
-    }
-
-    /// The exit status, as a process ends with it.
-    pub fn code(self) -> ExitCode
-        ensures { exit_status result ≡ status_of self }
-    {
-        ExitCode::from(self.status())
     }
 }

@@ -5,7 +5,7 @@ ghost use Rattle.irp_feed.specs.Feeding.{Starts};
 ghost use Rattle.irp_feed.specs.Input.{most_bytes};
 ghost use Rattle.irp_transcript.specs.Headers.{IsHeader};
 ghost use Rattle.irpx.specs.Judging.{Ends, refusal_of};
-ghost use Rattle.irpx.specs.Streams.{Bytes};
+ghost use Rattle.irp_streams.specs.Streams.{Bytes};
 
 use crate::not_done::{NotDone, Phase};
 use irp_fast_reader::{Line, Reader};

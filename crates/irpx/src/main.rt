@@ -4,7 +4,6 @@
 mod checking;
 mod demo;
 mod ending;
-mod input;
 mod judging;
 mod not_done;
 mod orders;
@@ -17,36 +16,18 @@ mod writing;
 ghost use Rattle.std.specs.Prelude.{IfErr, IfOk};
 ghost use Rattle.irpx.specs.CommandLine.{IsOrder, IsStartingFault};
 ghost use Rattle.irpx.specs.Program.{Obeys, ReadsFor};
-ghost use Rattle.irpx.specs.Streams.{streams_of};
+ghost use Rattle.irp_streams.specs.Streams.{streams_of};
 
 use crate::ending::Ending;
-use crate::not_done::{NotDone, Phase};
+use crate::not_done::NotDone;
 use crate::orders::Order;
-use irp_transcript_writer::{Out, WriterOut};
+use irp_program::{stop, words_of};
+use irp_streams::{Out, WriterOut};
 use std::alloc::Global;
-use std::env;
-use std::io::{self, Read, Write};
+use std::io::{self, Read};
 use std::process::ExitCode;
 use std::sync::Wait;
 use std::thread::Threads;
-
-/// The words that the program was given. `Usage` where they can't be had, and `NoMemory` where memory was missing for
-/// them.
-fn words_of(rt: &HostRuntime) -> Result<Vec<String>, NotDone>
-    ensures { IfErr result IsStartingFault }
-{
-    let words = match env::args(rt) {
-        Ok(words) => words,
-        Err(error) if error.kind() == io::ErrorKind::OutOfMemory => {
-            return Err(NotDone::NoMemory(Phase::Starting));
-        }
-        Err(_) => return Err(NotDone::Usage),
-    };
-    match words.collect(rt.alloc()) {
-        Ok(words) => Ok(words),
-        Err(_) => Err(NotDone::NoMemory(Phase::Starting)),
-    }
-}
 
 /// What the words ask for.
 fn order(rt: &HostRuntime) -> Result<Order, NotDone>
@@ -86,11 +67,8 @@ fn obey<R: Read, O: Out, T: Threads + Wait + Sync>(
 fn main(rt: HostRuntime) -> ExitCode {
     let mut output = WriterOut::new(io::writer(&rt));
     let mut input = rt.stdin();
-    let mut ending = obey(&rt, rt.alloc(), &mut input, &mut output, order(&rt));
-    if let Ending::Faulty(fault) = ending {
-        if writeln!(rt.stderr(), "{fault}").is_err() {
-            ending = Ending::Faulty(NotDone::Output);
-        }
+    match obey(&rt, rt.alloc(), &mut input, &mut output, order(&rt)) {
+        Ending::Faulty(fault) => stop(&rt, fault.status(), true, &fault),
+        ending => ExitCode::from(ending.status()),
     }
-    ending.code()
 }

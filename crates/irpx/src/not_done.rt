@@ -4,8 +4,10 @@ ghost use Rattle.std.specs.Prelude.{◌≡◌};
 ghost use Rattle.irpx.specs.Ending.{fault_status};
 
 use irp_fast_reader::Unfit;
+use irp_program::Unasked;
 use irp_script::Stop;
 use irp_script_reader::{MemberFault, ScriptRefusal, Section};
+use irp_streams::StreamFault;
 use std::fmt;
 
 /// What the program is at.
@@ -89,6 +91,33 @@ impl fmt::Display for NotDone {
             NotDone::Unfit { unfit } => write!(f, "irpx: can't be read again: {unfit}"),
             NotDone::Usage => f.write_str("irpx: usage: irpx demo, run [--workers N] or check"),
             NotDone::Input | NotDone::Output => f.write_str("irpx: input or output failed"),
+        }
+    }
+}
+
+impl From<Unasked> for NotDone {
+    ghost use Rattle.irpx.specs.CommandLine.{IsStartingFault};
+
+    ghost from_gives = { λ _ fault. IsStartingFault fault };
+
+    fn from(given: Unasked) -> NotDone {
+        match given {
+            Unasked::Usage => NotDone::Usage,
+            Unasked::NoMemory => NotDone::NoMemory(Phase::Starting),
+        }
+    }
+}
+
+/// An input that isn't read.
+impl From<StreamFault> for NotDone {
+    ghost use Rattle.irpx.specs.Ending.{IsReadingFault};
+
+    ghost from_gives = { λ _ fault. IsReadingFault fault };
+
+    fn from(given: StreamFault) -> NotDone {
+        match given {
+            StreamFault::Failed => NotDone::Input,
+            StreamFault::NoMemory => NotDone::NoMemory(Phase::Reading),
         }
     }
 }

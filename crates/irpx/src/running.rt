@@ -30,13 +30,13 @@ ghost use Rattle.irpx.specs.Running.{
   most_taken,
   tables_of,
 };
-ghost use Rattle.irpx.specs.Streams.{Bytes, TakesAtMost, output_of, streams_of};
+ghost use Rattle.irp_streams.specs.Streams.{Bytes, TakesAtMost, output_of, streams_of};
 
-use crate::input::read_up_to;
 use crate::not_done::{NotDone, Phase};
 use crate::planned::Planned;
 use crate::told::{cancel_told, dispatch_told, routine_told};
 use crate::writing::write;
+use irp_program::TOO_MANY_BYTES;
 use irp_routines::{Ask, Store};
 use irp_script::{
     AlwaysOpen, RunFault, ScriptSeat, Stop, Worked, hand_between, run_workers, script_seats,
@@ -46,7 +46,7 @@ use irp_shared::{
     Form, Seat, Session, Shared, Transcript, TranscriptParts, WordLine, open_with_limit,
 };
 use irp_steps::{table_answer, table_cancel};
-use irp_transcript_writer::Out;
+use irp_streams::{Out, read_up_to};
 use irp_types::{Row, Shown};
 use std::alloc::{AllocError, Global};
 use std::io::Read;
@@ -54,9 +54,6 @@ use std::marker::Brand;
 use std::sync::Wait;
 use std::sync::ledger::Blank;
 use std::thread::Threads;
-
-/// One byte more than the text of a script may have.
-const TOO_MANY_BYTES: usize = 1_048_577;
 
 /// Memory ran out while the script was run.
 const NO_MEMORY: NotDone = NotDone::NoMemory(Phase::Running);

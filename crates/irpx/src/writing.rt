@@ -1,13 +1,13 @@
 //! Writing a transcript.
 
 ghost use Rattle.std.specs.Prelude.{IfErr, OnOk};
-ghost use Rattle.irpx.specs.Streams.{output_of};
+ghost use Rattle.irp_streams.specs.Streams.{output_of};
 ghost use Rattle.irpx.specs.Writing.{Prints, StopsShort};
 
 use crate::not_done::{NotDone, Phase};
 use irp_fast_reader::{Unwritten, write_fitting};
 use irp_shared::Transcript;
-use irp_transcript_writer::Out;
+use irp_streams::Out;
 use std::alloc::Global;
 
 /// Writes a transcript that fits, so that it is read again as the same (this project's own format, docs/FORMATS.md).

@@ -2,7 +2,7 @@
 use Rattle.std.proofs.Common.{ℕ, List, ◌++◌, Option, Ok, Err, sym, subst, arith}
 use Rattle.std.proofs.lemmas.List.{take_rest}
 use Rattle.irp_fast_reader.specs.Fed.{Gives}
-use Rattle.irp_fast_reader.specs.declared.line.Line.{Line}
+use Rattle.irp_transcript_reader.specs.declared.line.Line.{Line}
 use Rattle.irp_feed.specs.Feeding.{FeedsBlock}
 use Rattle.irp_feed.specs.declared.unfed.Unfed.{Unfed}
 use Rattle.irp_feed.proofs.Fed.{fits_within}

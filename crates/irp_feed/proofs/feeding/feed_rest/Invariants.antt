@@ -1,7 +1,7 @@
 -- What was taken so far was given, but for the block.
 use Rattle.std.proofs.Common.{◌≡◌, ◌≤◌, ℕ, List, ◌++◌, length}
-use Rattle.irp_fast_reader.specs.Fed.{with_line}
-use Rattle.irp_fast_reader.specs.declared.line.Line.TheVariants.{Header as HeaderLine}
+use Rattle.irp_transcript_reader.specs.Reading.{with_line}
+use Rattle.irp_transcript_reader.specs.declared.line.Line.TheVariants.{Header as HeaderLine}
 use Rattle.irp_transcript.specs.Transcripts.{no_lines}
 use Rattle.irp_feed.specs.Input.{Bytes, most_bytes}
 use Rattle.irp_feed.specs.Feeding.{AreTaken, IsSoFar, Starts, piece_of}

@@ -4,4 +4,4 @@ use Rattle.irp_listing.proofs.Adding.{one_end}
 use Rattle.irp_listing.proofs.blocks.put_outcome.Goals as goal
 
 pub returns : goal.returns
-returns c = on_ok_weaker c.put_further.result (one_end _ _ _) c.put_further.ensures
+returns c = on_ok_weaker c.put_shown.result (one_end _ _) c.put_shown.ensures

@@ -2,7 +2,7 @@
 use Rattle.std.proofs.Common.{[], refl, inl}
 use Rattle.std.proofs.KnownBytes.{Consumes-nil}
 use Rattle.irp_live.specs.Sessions.{session_of}
-use Rattle.irp_live.specs.Streams.{streams_of}
+use Rattle.irp_streams.specs.Streams.{streams_of}
 use Rattle.irp_live.proofs.Talks.{talked_both}
 use Rattle.irp_live.proofs.talking.converse.Goals as goal
 

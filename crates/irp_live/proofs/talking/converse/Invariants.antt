@@ -1,6 +1,6 @@
 -- Each line so far was answered.
 use Rattle.irp_live.specs.Sessions.{Stands, session_of}
-use Rattle.irp_live.specs.Streams.{streams_of}
+use Rattle.irp_streams.specs.Streams.{streams_of}
 use Rattle.irp_live.specs.Talking.{Talked}
 use Rattle.irp_live.proofs.talking.converse.Given as goal
 

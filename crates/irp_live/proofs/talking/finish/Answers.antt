@@ -1,7 +1,7 @@
 -- The lines were answered, and the verdict was cut.
 use Rattle.std.proofs.Common.{inr, refl}
 use Rattle.irp_live.specs.Sessions.{session_of}
-use Rattle.irp_live.specs.Streams.{streams_of}
+use Rattle.irp_streams.specs.Streams.{streams_of}
 use Rattle.irp_live.proofs.talking.finish.Goals as goal
 
 pub returns-in-Err-tell : goal.returns-in-Err-tell

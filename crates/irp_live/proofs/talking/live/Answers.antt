@@ -1,6 +1,6 @@
 -- Without a line the verdict on no entries goes out, or is cut.
 use Rattle.std.proofs.Common.{inl, inr, refl}
-use Rattle.irp_live.specs.Streams.{streams_of}
+use Rattle.irp_streams.specs.Streams.{streams_of}
 use Rattle.irp_live.proofs.talking.live.Goals as goal
 
 pub returns-in-Ok : goal.returns-in-Ok

@@ -2,7 +2,7 @@
 use Rattle.std.proofs.Common.{refl}
 use Rattle.irp_transcript_reader.specs.Reading.{so_far}
 use Rattle.irp_live.specs.Sessions.{session_of}
-use Rattle.irp_live.specs.Streams.{streams_of}
+use Rattle.irp_streams.specs.Streams.{streams_of}
 use Rattle.irp_live.proofs.Served.{served}
 use Rattle.irp_live.proofs.talking.serve.Goals as goal
 

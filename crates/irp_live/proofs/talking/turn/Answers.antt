@@ -1,7 +1,8 @@
 -- A line that was read is answered, or its answer breaks off.
 use Rattle.std.proofs.Common.{◌≡◌, true, subst}
 use Rattle.irp_live.specs.Sessions.{session_of}
-use Rattle.irp_live.specs.Streams.{IsRead, streams_of}
+use Rattle.irp_streams.specs.Streams.{streams_of}
+use Rattle.irp_live.specs.Streams.{IsRead}
 use Rattle.irp_live.proofs.Turns.{exchanged, interrupted}
 use Rattle.irp_live.proofs.talking.turn.Goals as goal
 

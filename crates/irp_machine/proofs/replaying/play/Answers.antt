@@ -1,8 +1,5 @@
-use Rattle.std.proofs.Common.{rules, ◌≡◌, Some, ap, subst, ◌∙◌}
-use Rattle.irp_machine.specs.Machine.{act_of, seat_at}
-use Rattle.irp_machine.specs.Next.{next_of}
-use Rattle.irp_machine.specs.Replays.{IsActed}
-use Rattle.irp_machine.specs.Standings.{StandingValue, after_change}
+use Rattle.std.proofs.Common.{rules, ◌≡◌, Some}
+use Rattle.irp_machine.specs.Machine.{act_of}
 use Rattle.irp_machine.proofs.Histories.{played_in}
 use Rattle.irp_machine.proofs.replaying.play.Goals as goal
 
@@ -10,14 +7,6 @@ pub returns-clause-plays : goal.returns-clause-plays
 returns-clause-plays c =
     let machine = c.args.machine.now in
     let standing = c.args.standing.now in
-    let planned = c.in-Some.planned in
-    let act : act_of machine standing c.args.seat ≡ Some planned = search rules in
-    let acted =
-    subst
-    (λ (before : StandingValue).
-    IsActed machine before c.args.seat planned (next_of before (seat_at before c.args.seat) planned) c.args.entries.now.items c.act_again.new.standing c.act_again.new.entries.items
-    c.in_ok-change.change)
-    c.in_ok-before.ensures c.in_ok-change.ensures.records in
-    played_in machine standing c.act_again.new.standing c.change.new.self c.args.seat planned (act_of machine standing c.args.seat) c.args.entries.now.items
-    c.act_again.new.entries.items c.in_ok-change.change act acted
-    (c.in_ok-change-2.ensures ∙ ap (λ tells. after_change c.args.seat c.in_ok-change.change planned.place tells c.act_again.new.standing) c.tells.ensures)
+    let act : act_of machine standing c.args.seat ≡ Some c.in-Some.planned = search rules in
+    played_in machine standing c.play_in.new.standing c.args.seat c.in-Some.planned (act_of machine standing c.args.seat) c.args.entries.now.items
+    c.play_in.new.entries.items c.in_ok-_behind._behind act c.in_ok-_behind.ensures.plays

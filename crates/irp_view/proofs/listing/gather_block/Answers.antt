@@ -24,6 +24,5 @@ returns-in-Err-NoMemory c = λ aim text gathered none few.
 
 pub returns-in-Err-Input : goal.returns-in-Err-Input
 returns-in-Err-Input c = λ aim text gathered none few.
-    (let fed = subst (λ (unfed : Unfed). FeedsBlock HasGathered (Err unfed) c.feed_block.new.reader c.feed_block.new.sink aim (text ++ c.args.block.now)) c.in-Err-Input.field-0-is
-    (c.in-Err-Input.ensures aim text gathered few) in
-    (fed.0, stops_so (None) c.feed_block.new.sink aim (text ++ c.args.block.now) fed.1))
+    absurd (subst (λ (unfed : Unfed). FeedsBlock HasGathered (Err unfed) c.feed_block.new.reader c.feed_block.new.sink aim (text ++ c.args.block.now)) c.in-Err-Input.field-0-is
+    (c.in-Err-Input.ensures aim text gathered few))

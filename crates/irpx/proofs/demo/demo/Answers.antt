@@ -3,7 +3,7 @@ use Rattle.std.proofs.Common.{Ok, Err, OnOk, Result, inl, inr, refl}
 use Rattle.std.specs.Prelude.{IfErr}
 use Rattle.irp_transcript.specs.Transcripts.{TranscriptValue}
 use Rattle.irpx.specs.Demo.{AfterDemo, IsDemoTranscript}
-use Rattle.irpx.specs.Streams.{Output}
+use Rattle.irp_streams.specs.Streams.{Output}
 use Rattle.irpx.specs.Writing.{Prints, StopsShort}
 use Rattle.irpx.specs.declared.not_done.NotDone.{NotDone}
 use Rattle.irpx.proofs.Pieces.{keeps_itself}

@@ -2,7 +2,7 @@
 use Rattle.std.proofs.Common.{ℕ, None, Result, Ok, Err, inl, inr, refl, sym, rules, ◌∙◌}
 use Rattle.irp_script_reader.specs.declared.script.Script.{Script}
 use Rattle.irpx.specs.Running.{AfterRun, AfterScript, HandsFirst, tables_of}
-use Rattle.irpx.specs.Streams.{Streams, streams_of}
+use Rattle.irp_streams.specs.Streams.{Streams, streams_of}
 use Rattle.irpx.specs.declared.not_done.NotDone.{NotDone}
 use Rattle.irpx.proofs.Pieces.{keeps_itself}
 use Rattle.irpx.proofs.running.run_read.Goals as goal

@@ -16,7 +16,7 @@ use Rattle.irp_steps.specs.Behaviours.{cancel_rule_of}
 use Rattle.irp_script.specs.Told.{CancelsAnswer, CancelsAs, DispatchesPlan, PlansAs, RoutinesAnswer}
 use Rattle.irp_script.proofs.Told.{cancels_more, dispatches_more, nothing_told, routines_kept, routines_more}
 use Rattle.irpx.specs.Running.{AfterScript, and_cancels, and_dispatches, and_drivers, and_routines}
-use Rattle.irpx.specs.Streams.{output_of}
+use Rattle.irp_streams.specs.Streams.{output_of}
 use Rattle.irpx.proofs.Adding.{added, all_of, cancels_grow, counts_known, dispatches_grow, holds_at, routines_grow, whole}
 use Rattle.irpx.proofs.running.run_script.Goals as goal
 

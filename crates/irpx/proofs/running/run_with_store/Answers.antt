@@ -5,7 +5,7 @@ use Rattle.irp_types.specs.State.{Entrance, Tables}
 use Rattle.irp_routines.specs.Tables.{by_major, with_driver}
 use Rattle.irp_script.proofs.Told.{answers_kept, store_answers_so}
 use Rattle.irpx.specs.Running.{AfterScript, and_drivers}
-use Rattle.irpx.specs.Streams.{output_of}
+use Rattle.irp_streams.specs.Streams.{output_of}
 use Rattle.irpx.proofs.Adding.{added, all_added, drivers_grow}
 use Rattle.irpx.proofs.running.run_with_store.Goals as goal
 

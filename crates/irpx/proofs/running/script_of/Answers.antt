@@ -4,7 +4,6 @@ use Rattle.irp_script_reader.specs.Scripts.{ReadsScript}
 use Rattle.irp_script_reader.specs.declared.refusal.ScriptFault.{ScriptFault}
 use Rattle.std.proofs.lemmas.Result.{err_from_is_err_and}
 use Rattle.irpx.specs.Running.{IsRead}
-use Rattle.irpx.specs.Streams.{IsReadingFault}
 use Rattle.irpx.proofs.running.script_of.Goals as goal
 
 pub returns-in-Ok-clause-ok : goal.returns-in-Ok-clause-ok
@@ -22,4 +21,4 @@ returns-in-Err-Refused-clause-err g c =
 pub returns-in_err-text-clause-err : goal.returns-in_err-text-clause-err
 returns-in_err-text-clause-err g c =
     let p = err_from_is_err_and c.from_residual.result c.from_residual.ensures.1 in
-    rw p.1 (inl (subst IsReadingFault (sym p.2) c.in_err-text.ensures.err))
+    rw p.1 (inl p.2)

@@ -1,7 +1,7 @@
 -- The line is given to the draft, to the refused calls and to the judge.
 use Rattle.std.proofs.Common.{Option, sym, subst, ◌∙◌, ap}
 use Rattle.irp_judge.specs.Judges.{seen}
-use Rattle.irp_fast_reader.specs.Fed.{with_line}
+use Rattle.irp_transcript_reader.specs.Reading.{with_line}
 use Rattle.irp_page.specs.declared.draft.Draft.{Draft}
 use Rattle.irp_view.specs.Drafts.{AreDrafted, choice_of}
 use Rattle.irp_view.specs.RefusedCalls.{HasNoted}

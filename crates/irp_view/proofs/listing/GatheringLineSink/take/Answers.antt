@@ -1,7 +1,7 @@
 -- The line is gathered.
 use Rattle.std.proofs.Common.{Option, sym, subst}
 use Rattle.irp_types.specs.declared.names.IrpRef.{IrpRef}
-use Rattle.irp_fast_reader.specs.Fed.{with_line}
+use Rattle.irp_transcript_reader.specs.Reading.{with_line}
 use Rattle.irp_view.specs.Listed.{IsGathered}
 use Rattle.irp_view.specs.declared.orders.Span.{Span}
 use Rattle.irp_view.proofs.Listed.{gathered_on}

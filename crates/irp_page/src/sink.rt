@@ -1,0 +1,79 @@
+//! Words that grow piece by piece, where their length is asked before they are drawn.
+
+ghost use Rattle.std.specs.Prelude.{◌≡◌, [], IfErr, IfOk, None, Some, decimal};
+ghost use Rattle.irp_page.specs.Sinks.{Says};
+
+use std::alloc::{AllocError, Global};
+use std::fmt;
+use std::marker::Model;
+
+/// Words that grow piece by piece. Where memory runs out they remember that, and take nothing more.
+///
+/// Contracts see them as their bytes, and as None where memory ran out.
+#[derive(Drop)]
+pub struct Sink {
+    words: String,
+    /// Whether memory ran out.
+    ran_out: bool,
+}
+
+impl Model for Sink {
+    ghost use Rattle.std.specs.Prelude.{List, Option, None, Some, ℕ, if◌then◌else◌};
+
+    ghost Value = { Option (List ℕ) };
+
+    ghost view = { λ sink. if sink.ran_out then None else Some sink.words.bytes.items };
+}
+
+/// What can be said in words.
+pub trait InWords: Drop {
+    /// Puts the words.
+    fn put(self, out: &mut Sink);
+}
+
+impl Sink {
+    /// No words. It takes no memory.
+    pub fn new(alloc: Global) -> Sink
+        ensures { result ≡ Some [] }
+    {
+        Sink {
+            words: String::new(alloc),
+            ran_out: false,
+        }
+    }
+
+    /// Puts words.
+    pub fn put(&mut self, words: &str)
+        ensures { Says words.now self.old self.new }
+    {
+        if !self.ran_out && self.words.push_str(words).is_err() {
+            self.ran_out = true;
+        }
+    }
+
+    /// Puts a number in decimal.
+    pub fn number(&mut self, number: u64)
+        ensures { Says (decimal number) self.old self.new }
+    {
+        let mut buffer = itoa::Buffer::new();
+        self.put(buffer.format(number));
+    }
+
+    /// Puts what is displayed.
+    pub fn show<D: fmt::Display + Drop>(&mut self, shown: D) {
+        if !self.ran_out && self.words.write_fmt(shown).is_err() {
+            self.ran_out = true;
+        }
+    }
+
+    /// The words. The one error is that memory ran out.
+    pub fn finish(self) -> Result<String, AllocError>
+        ensures ok { IfOk result (λ words. self ≡ Some words.bytes.items) }
+        ensures err { IfErr result (λ fault. self ≡ None) }
+    {
+        if self.ran_out {
+            return Err(AllocError);
+        }
+        Ok(self.words)
+    }
+}
