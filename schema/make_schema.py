@@ -1,12 +1,19 @@
 #!/usr/bin/env python3
-"""Writes script.schema.json beside this file (JSON Schema, draft 2020-12), for editors. One row here stands for one
-form of docs/FORMATS.md. With the word --check it writes nothing, and ends with 1 where the file isn't what it would
-write.
+"""Writes script.schema.json beside this file (JSON Schema, draft 2020-12), for editors: `bin/irp_words tables |
+schema/make_schema.py`. Names and keys are those of the tables that it reads; the form of each value stands here, as in
+docs/FORMATS.md. With the word --check it writes nothing, and ends with 1 where the file isn't what it would write, or
+words.tmLanguage.json has other words.
 """
 import json
 import os
+import re
 import sys
 
+USAGE = ('usage: irp_words tables | make_schema.py writes script.schema.json beside it; make_schema.py --check tells '
+         'whether that and words.tmLanguage.json are of these tables')
+if sys.argv[1:] not in ([], ['--check']):
+    sys.exit(USAGE)
+TABLES = json.load(sys.stdin)
 U8, U32, U64 = 255, 4294967295, 18446744073709551615
 
 
@@ -24,46 +31,40 @@ def row(*items, description=None):
     return dict(out, description=description) if description else out
 
 
-def step(do, description, **keys):
-    return {'title': do, 'description': description, 'type': 'object', 'additionalProperties': False,
-            'required': ['seat', 'do'] + list(keys),
-            'properties': dict({'seat': ref('seat'), 'do': {'const': do}}, **keys, **{'if': ref('condition')})}
+def step(act):
+    """Returns the form of a step. Two keys of the name `to` have different forms."""
+    do, keys = act['word'], act['keys']
+    forms = {key: KEYS[do, key] if (do, key) in KEYS else KEYS[key] for key in keys}
+    return {'title': do, 'description': TOLD.get(do, act['windows'] + MORE.get(do, '')), 'type': 'object',
+            'additionalProperties': False, 'required': ['seat', 'do'] + keys,
+            'properties': dict({'seat': ref('seat'), 'do': {'const': do}}, **forms, **{'if': ref('condition')})}
 
 
 u32, u64 = ref('u32'), ref('u64')
 STATUS_NOT_FINAL = [259, 3221225494]
-by, irp = {'by': ref('party')}, {'irp': ref('packet')}
-CALLS = [
-    step('create_device', 'IoCreateDevice', driver=u32, lock=u32),
-    step('attach', 'IoAttachDeviceToDeviceStack', device=u32, to=u32),
-    step('detach', 'IoDetachDevice; names the lower device', lower=u32),
-    step('delete', 'IoDeleteDevice', device=u32),
-    step('allocate', 'IoAllocateIrp; binds the label', size=ref('u8'), **{'as': ref('label')}),
-    step('free', 'IoFreeIrp', **irp), step('cancel', 'IoCancelIrp', **irp), step('look', 'shows the packet', **irp),
-    step('reuse', 'IoReuseIrp', **irp, status=ref('status')),
-    step('set_next', 'IoGetNextIrpStackLocation, and filling it', **by, **irp, major=ref('u8'), word=u64),
-    step('copy_to_next', 'IoCopyCurrentIrpStackLocationToNext', **by, **irp),
-    step('skip', 'IoSkipCurrentIrpStackLocation', **by, **irp),
-    step('mark_pending', 'IoMarkIrpPending', **by, **irp),
-    step('set_routine', 'IoSetCompletionRoutine', **by, **irp, set=ref('setting')),
-    step('call_driver', 'IoCallDriver', **by, **irp, target=u32),
-    step('complete', 'IoCompleteRequest', **by, **irp, status=ref('status'), information=u64),
-    step('set_cancel_routine', 'IoSetCancelRoutine', **by, **irp, cancel={'anyOf': [u32, {'type': 'null'}]}),
-]
-LOCKS = [
-    step('acquire', 'IoAcquireRemoveLock', lock=u32, tag=u32),
-    step('release', 'IoReleaseRemoveLock', lock=u32, tag=u32),
-    step('begin_remove', 'the first half of IoReleaseRemoveLockAndWait', lock=u32, tag=u32),
-    step('drained', 'the second half: asks, and does not wait', lock=u32),
-]
-SLOTS = [
-    step('hand', 'hands a reference of a remove lock to another seat', lock=u32, tag=u32, to=ref('seat')),
-    step('publish', 'puts the packet into a cancel slot of this seat', slot=u32, **irp),
-    step('withdraw', 'takes it out again', slot=u32),
-    step('request', 'takes the use out of any slot', slot=u32),
-    step('finish_taken', 'IoCompleteRequest with the token from that slot', **irp, slot=u32, status=ref('status'),
-         information=u64),
-]
+# What stands under a key of a step.
+KEYS = {
+    'driver': u32, 'lock': u32, 'device': u32, 'to': u32, ('hand', 'to'): ref('seat'), 'lower': u32, 'target': u32,
+    'tag': u32, 'slot': u32, 'size': ref('u8'), 'major': ref('u8'), 'word': u64, 'information': u64, 'as': ref('label'),
+    'irp': ref('packet'), 'by': ref('party'), 'status': ref('status'), 'set': ref('setting'),
+    'cancel': {'anyOf': [u32, {'type': 'null'}]},
+}
+# What a step does: what stands behind the name in Windows, or in place of it.
+MORE = {'detach': '; names the lower device', 'allocate': '; binds the label', 'set_next': ', and filling it',
+        'finish_taken': ' with the token from that slot'}
+TOLD = {
+    'look': 'shows the packet',
+    'begin_remove': 'the first half of IoReleaseRemoveLockAndWait',
+    'drained': 'the second half: asks, and does not wait',
+    'hand': 'hands a reference of a remove lock to another seat',
+    'publish': 'puts the packet into a cancel slot of this seat',
+    'withdraw': 'takes it out again',
+    'request': 'takes the use out of any slot',
+}
+# The steps of `setup`, those on remove locks, and those of forms 2 and 3 alone.
+STEPS = [step(act) for act in TABLES['acts']]
+LOCK, HAND = ([act['word'] for act in TABLES['acts']].index(first) for first in ('acquire', 'hand'))
+CALLS, LOCKS, SLOTS = STEPS[:LOCK], STEPS[LOCK:HAND], STEPS[HAND:]
 
 
 def by_do(steps, **more):
@@ -99,10 +100,7 @@ NO_CONDITION = {'if': False}
 # The answers that a condition names by a word: kinds of replies, then words of word lines.
 ANSWERS = ['refused', 'success', 'routine', 'done', 'yes', 'busy', 'standing', 'taken', 'lost', 'nothing', 'seat_full',
            'not_held', 'already_removing', 'no_lock', 'used', 'not_standing', 'no_slot', 'no_token']
-REFUSALS = ['NoIrp', 'Stale', 'NoDevice', 'DeviceGone', 'NotOwner', 'NoLocation', 'NotPrepared', 'AfterSkip', 'TooShort',
-            'WrongTarget', 'NoRoutine', 'BadStatus', 'CancelRoutineSet', 'AlreadyCancelled', 'InFlight', 'StillAttached',
-            'SameStack', 'TooDeep', 'Full', 'NothingAttached', 'NotDrained', 'BadSize', 'BadMajor', 'NoDriver', 'Ended',
-            'HistoryFull', 'NoLock', 'SlotHeld', 'NotSlotHeld']
+REFUSALS = [it['name'] for it in TABLES['refusals']]
 BEHAVIOURS = {
     'watch': [{'const': 'continue'}] * 2, 'change': [ref('goes_on')] * 2, 'keeper': [{'const': 'keep'}] * 2,
     'keep_on_error': [{'const': 'continue'}, {'const': 'keep'}], 'free': [ref('behaviour')] * 2,
@@ -149,7 +147,7 @@ schema = {
                    'else': row(u32, u64)},
         'party': {'description': '"o", the originator, or a device', 'if': {'type': 'string'}, 'then': {'const': 'o'},
                   'else': u32},
-        'rule': {'enum': list(BEHAVIOURS)},
+        'rule': {'enum': TABLES['rules']},
         'flags': {'enum': ['', 's', 'e', 'c', 'se', 'sc', 'ec', 'sec'],
                   'description': 's on success, e on error, c on cancel'},
         'setting': row(ref('rule'), u32, u64, ref('flags'),
@@ -159,8 +157,8 @@ schema = {
         'goes_on': {'if': {'type': 'string'}, 'then': {'const': 'continue'}, 'else': ref('replace')},
         'behaviour': {'if': {'type': 'string'}, 'then': {'enum': ['continue', 'keep']}, 'else': ref('replace')},
         'completion': by_first({
-            rule: row({'const': rule}, *parts, description='[rule, on a success, on another status]')
-            for rule, parts in BEHAVIOURS.items()}),
+            rule: row({'const': rule}, *BEHAVIOURS[rule], description='[rule, on a success, on another status]')
+            for rule in TABLES['rules']}),
         'cancel': by_first({'finish': row({'const': 'finish'}, u64), 'leave': row({'const': 'leave'})}),
         'plan_1': by_first(PLANS), 'plan_2': by_first(PLANS_2),
         'driver': {'type': 'array', 'maxItems': 28, 'items': row(whole(27), u32, description='[major, dispatch]')},
@@ -176,13 +174,33 @@ schema = {
     }, **{'step_' + s['title']: s for s in CALLS + LOCKS + SLOTS}),
 }
 TEXT = json.dumps(schema, indent=1) + '\n'
-PLACE = os.path.join(os.path.dirname(os.path.realpath(__file__)), 'script.schema.json')
+FOLDER = os.path.dirname(os.path.realpath(__file__))
+SCHEMA, COLOURS = (os.path.join(FOLDER, name) for name in ('script.schema.json', 'words.tmLanguage.json'))
+# What the lists of the colours have beside the tables' words; `as` has a colour of its own.
+MORE_WORDS = {'stack', 'seat', 'leave', 'continue', 'keep', 'replace', 'nothing', 'none', 'o', 'originator'}
 
-if __name__ == '__main__':
-    if sys.argv[1:] not in ([], ['--check']):
-        sys.exit('usage: make_schema.py writes script.schema.json beside it; make_schema.py --check tells whether it is that')
-    if '--check' in sys.argv[1:]:
-        with open(PLACE, encoding='utf-8') as file:
-            sys.exit(0 if file.read() == TEXT else 'schema/script.schema.json is not what make_schema.py writes')
-    with open(PLACE, 'w', encoding='utf-8') as file:
-        file.write(TEXT)
+
+def coloured():
+    """Returns the words of the lists of words.tmLanguage.json."""
+    with open(COLOURS, encoding='utf-8') as file:
+        patterns = [it['match'] for it in json.load(file)['patterns']]
+    lists = [re.fullmatch(r'\(\?<=\^\|\\s\)\(([a-z_|]+)\)\(\?=\\s\|\$\)', it) for it in patterns]
+    return {word for it in lists if it for word in it[1].split('|')}
+
+
+def check():
+    """Returns what is wrong with the files, or None."""
+    words = {act['word'] for act in TABLES['acts']} | {key for act in TABLES['acts'] for key in act['keys']}
+    other = coloured() ^ (words | set(TABLES['plans']) | set(TABLES['rules']) | MORE_WORDS) - {'as'}
+    if other:
+        return f'schema/words.tmLanguage.json: {", ".join(sorted(other))}: in a table or in a list, and not in both'
+    if set(PLANS_2) != set(TABLES['plans']):
+        return 'schema/make_schema.py has other plans'
+    with open(SCHEMA, encoding='utf-8') as file:
+        return None if file.read() == TEXT else 'schema/script.schema.json is not what make_schema.py writes'
+
+
+if '--check' in sys.argv[1:]:
+    sys.exit(check())
+with open(SCHEMA, 'w', encoding='utf-8') as file:
+    file.write(TEXT)

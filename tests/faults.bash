@@ -10,50 +10,37 @@ if [ -z "${IRP_WORDS:-}" ] && [ ! -d ../crates/irp_words ]; then
     exit 0
 fi
 irp_words=${IRP_WORDS:-$(../bin/program irp_words quick)} || exit 1
-kept=$(mktemp -d) || exit 1
-trap 'rm -rf "$kept"' EXIT
-tried=0
-wrong=0
-
-# Counts a try, and tells $1 unless the command behind it succeeds.
-meets() {
-    local name=$1
-    shift
-    tried=$((tried + 1))
-    "$@" && return
-    wrong=$((wrong + 1))
-    echo "failed: faults: $name"
-}
+# shellcheck source=parts/counting.bash
+. ./parts/counting.bash
 
 # Checks what is told of the script $1, and the status: 1 where a fault is told.
 tells() {
     local status expected=0
     grep -qv '^warning: ' "${1%.script}.expected" && expected=1
-    "$irp_words" faults <"$1" >"$kept/told" 2>"$kept/errors"
+    "$irp_words" faults <"$1" >"$room/told" 2>"$room/errors"
     status=$?
     meets "$1: status $status, not $expected" [ "$status" -eq "$expected" ]
-    meets "$1: what is told" cmp -s "${1%.script}.expected" "$kept/told"
-    meets "$1: standard error" [ ! -s "$kept/errors" ]
+    meets "$1: what is told" cmp -s "${1%.script}.expected" "$room/told"
+    meets "$1: standard error" [ ! -s "$room/errors" ]
 }
 
 for script in faults/*.script; do tells "$script"; done
 
 # No example has a fault, and a step of theirs is warned of only where it is refused.
 for script in ../examples/*/*.script; do
-    "$irp_words" faults <"$script" >"$kept/told"
+    "$irp_words" faults <"$script" >"$room/told"
     meets "$script: a fault is told" [ $? -eq 0 ]
     [ -e "${script%.script}.transcript" ] || continue
-    meets "$script: a warning" python3 ./warned.py "$script" "${script%.script}.transcript" "$kept/told"
+    meets "$script: a warning" python3 ./warned.py "$script" "${script%.script}.transcript" "$room/told"
 done
 
 # On a terminal bin/irpx tells the same behind its own line.
-../bin/program irpx quick >"$kept/program" || exit 1
+../bin/program irpx quick >"$room/program" || exit 1
 for script in faults/two_faults faults/a_comment; do
-    python3 ./on_a_terminal.py "$script.script" ../bin/irpx run >"$kept/told"
+    python3 ./on_a_terminal.py "$script.script" ../bin/irpx run >"$room/told"
     meets "$script: status of bin/irpx" [ $? -eq 1 ]
-    ../bin/irpx run <"$script.script" 2>&1 | cat - "$script.expected" >"$kept/expected"
-    meets "$script: bin/irpx on a terminal" cmp -s "$kept/expected" "$kept/told"
+    ../bin/irpx run <"$script.script" 2>&1 | cat - "$script.expected" >"$room/expected"
+    meets "$script: bin/irpx on a terminal" cmp -s "$room/expected" "$room/told"
 done
 
-echo "tried: $tried $wrong faults told"
-[ "$wrong" -eq 0 ]
+finish 'faults told'

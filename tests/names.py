@@ -1,4 +1,5 @@
-"""Compares the names that irp_view prints with the tables of the second reading, one by one."""
+"""Compares the names that irp_view prints with the tables of the second reading, one by one, and those with the tables that
+irp_words prints."""
 
 import json
 import os
@@ -6,8 +7,8 @@ import subprocess
 import sys
 
 sys.path.insert(0, os.path.join(os.path.dirname(os.path.abspath(__file__)), "second_reading"))
-from names_in_windows import MAJORS, STATUSES, major, status  # noqa: E402 (the path is set above)
-from why_texts import IN_WINDOWS, MEANINGS  # noqa: E402
+from names_in_windows import MAJORS, ROUTINES, STATUSES, major, status  # noqa: E402 (the path is set above)
+from why_texts import IN_WINDOWS, MEANINGS, calls_of_page  # noqa: E402
 
 HEADER = {"cancels": [], "completions": [0] * 5, "dispatches": [], "drivers": [], "form": 2, "locks": 1, "seats": 1,
           "slots": 0}
@@ -36,6 +37,23 @@ def calls():
     return found
 
 
+def compare(tables):
+    """Returns what each table of irp_words has, and what the second reading has for it."""
+    acts, refusals = tables["acts"], tables["refusals"]
+    in_windows = {(do, it["name"]): name for it in refusals for do, name in it["windows"].items()}
+    tokens = {("finish_taken", name): windows for (do, name), windows in IN_WINDOWS.items() if do == "complete"}
+    return {
+        "routines": ({it["word"]: it["windows"] for it in acts if it["word"] in ROUTINES}, ROUTINES),
+        "names in RULES": ({it["word"]: it["rules"] for it in acts if it["word"] in ROUTINES},
+                           {do: calls_of_page()[do][0] for do in ROUTINES}),
+        "numbers": ([it["number"] for it in refusals], [*range(1, len(MEANINGS) + 2)]),
+        "meanings": ({it["name"]: it["meaning"] for it in refusals}, {**MEANINGS, "HistoryFull": "the history is full"}),
+        "mistakes": (in_windows, {**IN_WINDOWS, **tokens}),
+        "statuses": (tables["statuses"], [[it, status(it)] for it in STATUSES]),
+        "majors": (tables["majors"], [[it, major(it)] for it in range(len(MAJORS))]),
+    }
+
+
 def main():
     wanted = calls()
     rows = [HEADER, *(entry(call, reply, at) for at, (call, reply, _) in enumerate(wanted))]
@@ -54,7 +72,13 @@ def main():
     if made.returncode:
         wrong += 1
         print(f"failed: names: exit status {made.returncode}: {made.stderr}")
-    print(f"tried: {len(wanted)} {wrong} names in Windows")
+    told = subprocess.run([sys.argv[2], "tables"], capture_output=True, text=True, check=True, timeout=100).stdout
+    pairs = compare(json.loads(told))
+    for table, (one, other) in pairs.items():
+        if one != other:
+            wrong += 1
+            print(f"failed: names: {table} of irp_words: {one}, and not {other}")
+    print(f"tried: {len(wanted) + len(pairs)} {wrong} names in Windows")
     return 1 if wrong else 0
 
 

@@ -10,22 +10,10 @@ set -u
 cd "$(dirname "$(readlink -f "$0")")" || exit 1
 irp_orders=${IRP_ORDERS:-$(../bin/program irp_orders quick)} || exit 1
 irpx=${IRPX:-$(../bin/program irpx quick)} || exit 1
-room=$(mktemp -d) || exit 1
-trap 'rm -rf "$room"' EXIT
+# shellcheck source=parts/counting.bash
+. ./parts/counting.bash
 examples=../examples/orders
-tried=0
-wrong=0
 case $irp_orders in *.unproved) count=${COUNT:-10} runs=${RUNS:-5} ;; *) count=${COUNT:-300} runs=${RUNS:-40} ;; esac
-
-# Counts one check. Its name is $1; the rest is a command that succeeds where the check is met.
-meets() {
-    local name=$1
-    shift
-    tried=$((tried + 1))
-    "$@" && return
-    wrong=$((wrong + 1))
-    echo "failed: orders: $name"
-}
 
 # Runs irp_orders with the given words. Keeps its output, its errors and its status. Standard input is what stands at the
 # call.

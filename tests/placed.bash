@@ -7,20 +7,8 @@ set -u
 cd "$(dirname "$(readlink -f "$0")")" || exit 1
 IRP_VIEW=$(readlink -f "${IRP_VIEW:-$(../bin/program irp_view quick)}") || exit 1
 export IRP_VIEW
-room=$(mktemp -d) || exit 1
-trap 'rm -rf "$room"' EXIT
-tried=0
-wrong=0
-
-# Counts a check: its name, and a command that succeeds where it is met.
-meets() {
-    local name=$1
-    shift
-    tried=$((tried + 1))
-    "$@" && return
-    wrong=$((wrong + 1))
-    echo "failed: placed: $name"
-}
+# shellcheck source=parts/counting.bash
+. ./parts/counting.bash
 
 # Writes the places of the transcript $1 beside it: of each entry and answer a line of its own, with odd names.
 place() {
@@ -122,5 +110,4 @@ is_left_out "can't be read"
 
 meets 'standard input has no places' cmp -s <("$IRP_VIEW" text <"$kept") <(../bin/irp text <"$kept")
 meets 'help is irp_view'\''s' cmp -s <("$IRP_VIEW" --help) <(../bin/irp text --help)
-echo "tried: $tried $wrong names and lines"
-[ "$wrong" -eq 0 ]
+finish 'names and lines'

@@ -9,20 +9,8 @@ if ! command -v python3 >/dev/null; then
     echo 'passed over, for want of Python: times beside plain Rust'
     exit 0
 fi
-room=$(mktemp -d) || exit 1
-trap 'rm -rf "$room"' EXIT
-tried=0
-wrong=0
-
-# Counts one check. Its name is $1; the rest is a command that succeeds where the check is met.
-meets() {
-    local name=$1
-    shift
-    tried=$((tried + 1))
-    "$@" && return
-    wrong=$((wrong + 1))
-    echo "failed: ratios: $name"
-}
+# shellcheck source=parts/counting.bash
+. ./parts/counting.bash
 
 # Runs bin/ratios with the given words and the stand-in. Keeps its output, its errors and its status.
 run() {
@@ -75,5 +63,4 @@ if command -v cargo >/dev/null; then
 else
     echo 'passed over, for want of cargo: the same work in plain Rust'
 fi
-echo "tried: $tried $wrong checks of times beside plain Rust"
-[ "$wrong" -eq 0 ]
+finish 'checks of times beside plain Rust'

@@ -10,22 +10,10 @@ set -u
 cd "$(dirname "$(readlink -f "$0")")" || exit 1
 irp_view=${IRP_VIEW:-$(../bin/program irp_view quick)} || exit 1
 irpx=${IRPX:-$(../bin/program irpx quick)} || exit 1
-room=$(mktemp -d) || exit 1
-trap 'rm -rf "$room"' EXIT
+# shellcheck source=parts/counting.bash
+. ./parts/counting.bash
 examples=../examples/why
 case $irp_view in *.unproved) count=${COUNT:-60} ;; *) count=${COUNT:-400} ;; esac
-tried=0
-wrong=0
-
-# Counts one check. Its name is $1; the rest is a command that succeeds where the check is met.
-meets() {
-    local name=$1
-    shift
-    tried=$((tried + 1))
-    "$@" && return
-    wrong=$((wrong + 1))
-    echo "failed: why: $name"
-}
 
 # Whether the last run ended with the status $1, printed the file $2, and wrote the file $3 to standard error.
 left() {

@@ -8,20 +8,8 @@ set -u
 cd "$(dirname "$(readlink -f "$0")")" || exit 1
 irp_words=${IRP_WORDS:-$(../bin/program irp_words quick)} || exit 1
 irpx=${IRPX:-$(../bin/program irpx quick)} || exit 1
-kept=$(mktemp -d) || exit 1
-trap 'rm -rf "$kept"' EXIT
-tried=0
-wrong=0
-
-# Counts one check. Its name is $1; the rest is a command that succeeds where the check is met.
-meets() {
-    local name=$1
-    shift
-    tried=$((tried + 1))
-    "$@" && return
-    wrong=$((wrong + 1))
-    echo "failed: words: $name"
-}
+# shellcheck source=parts/counting.bash
+. ./parts/counting.bash
 
 # Prints the script of standard input in one form, so that equal scripts are equal texts: words that the program makes.
 form_of() {
@@ -35,42 +23,42 @@ most=100000
 # Each script there and back.
 for script in ../examples/*/*.script; do
     [ "$(wc -c <"$script")" -le "$most" ] || continue
-    "$irp_words" words "$script" >"$kept/words"
+    "$irp_words" words "$script" >"$room/words"
     meets "$script: words, status" [ $? -eq 0 ]
-    "$irp_words" json <"$kept/words" >"$kept/json"
+    "$irp_words" json <"$room/words" >"$room/json"
     meets "$script: JSON, status" [ $? -eq 0 ]
-    form_of <"$kept/json" | cmp -s - "$kept/words"
+    form_of <"$room/json" | cmp -s - "$room/words"
     meets "$script: the same words" [ $? -eq 0 ]
     if command -v python3 >/dev/null; then
         meets "$script: the same script" python3 -c 'import json, sys
-sys.exit(json.load(open(sys.argv[1])) != json.load(open(sys.argv[2])))' "$script" "$kept/json"
+sys.exit(json.load(open(sys.argv[1])) != json.load(open(sys.argv[2])))' "$script" "$room/json"
     fi
     [ -e "${script%.script}.transcript" ] || continue
-    "$irpx" run <"$kept/json" >"$kept/transcript"
-    meets "$script: the same transcript" cmp -s "${script%.script}.transcript" "$kept/transcript"
+    "$irpx" run <"$room/json" >"$room/transcript"
+    meets "$script: the same transcript" cmp -s "${script%.script}.transcript" "$room/transcript"
 done
 
 # Scripts that were written in words.
 for words in ../examples/*/*.words; do
-    "$irp_words" json "$words" >"$kept/json"
+    "$irp_words" json "$words" >"$room/json"
     meets "$words: status" [ $? -eq 0 ]
-    form_of <"$kept/json" >"$kept/one"
-    form_of <"${words%.words}.script" >"$kept/other"
-    meets "$words: the script beside it" cmp -s "$kept/one" "$kept/other"
+    form_of <"$room/json" >"$room/one"
+    form_of <"${words%.words}.script" >"$room/other"
+    meets "$words: the script beside it" cmp -s "$room/one" "$room/other"
 done
 
-# Tries the wrong text in $kept/text: its name is $1, and its faults are in $kept/expected.
+# Tries the wrong text in $room/text: its name is $1, and its faults are in $room/expected.
 try_wrong() {
-    "$irp_words" json <"$kept/text" >"$kept/output" 2>"$kept/told"
+    "$irp_words" json <"$room/text" >"$room/output" 2>"$room/told"
     meets "$1: status" [ $? -eq 1 ]
-    meets "$1: no output" [ ! -s "$kept/output" ]
-    if ! cmp -s "$kept/expected" "$kept/told"; then
-        diff "$kept/expected" "$kept/told" | sed "s/^/failed: words: $1: /"
+    meets "$1: no output" [ ! -s "$room/output" ]
+    if ! cmp -s "$room/expected" "$room/told"; then
+        diff "$room/expected" "$room/told" | sed "s/^/failed: words: $1: /"
     fi
-    meets "$1: what is told" cmp -s "$kept/expected" "$kept/told"
-    "$irp_words" faults <"$kept/text" >"$kept/told"
+    meets "$1: what is told" cmp -s "$room/expected" "$room/told"
+    "$irp_words" faults <"$room/text" >"$room/told"
     meets "$1: faults, status" [ $? -eq 1 ]
-    meets "$1: faults" cmp -s "$kept/expected" "$kept/told"
+    meets "$1: faults" cmp -s "$room/expected" "$room/told"
 }
 
 # Has $1 try each text of standard input: a name behind '# ', lines behind '|', what is told behind '>'.
@@ -79,49 +67,56 @@ each_block() {
     while IFS= read -r line; do
         case $line in
         '# '*)
-            [ -z "$name" ] || [ ! -s "$kept/text" ] || "$1" "$name"
+            [ -z "$name" ] || [ ! -s "$room/text" ] || "$1" "$name"
             name=${line#??}
-            : >"$kept/text"
-            : >"$kept/expected"
+            : >"$room/text"
+            : >"$room/expected"
             ;;
-        '|'*) printf '%s\n' "${line#?}" >>"$kept/text" ;;
-        '>'*) printf '%s\n' "${line#?}" >>"$kept/expected" ;;
+        '|'*) printf '%s\n' "${line#?}" >>"$room/text" ;;
+        '>'*) printf '%s\n' "${line#?}" >>"$room/expected" ;;
         esac
     done < <(cat && echo '# end')
 }
 each_block try_wrong <wrong_words.txt
-printf 'steps # \xff\n' >"$kept/text"
-echo 'the text; expected UTF-8' >"$kept/expected"
+printf 'steps # \xff\n' >"$room/text"
+echo 'the text; expected UTF-8' >"$room/expected"
 try_wrong 'a text that is not UTF-8'
-head -c 1048577 /dev/zero | tr '\0' ' ' >"$kept/text"
-echo 'the text; expected a text of at most 1,048,576 bytes' >"$kept/expected"
+head -c 1048577 /dev/zero | tr '\0' ' ' >"$room/text"
+echo 'the text; expected a text of at most 1,048,576 bytes' >"$room/expected"
 try_wrong 'a text that is too long'
 
-# Tries the text in $kept/text, which is taken: its name is $1, and the warnings are in $kept/expected.
+# Tries the text in $room/text, which is taken: its name is $1, and the warnings are in $room/expected.
 try_warned() {
     local words expected
     for words in faults 'faults --strict'; do
         expected=0
         [ "$words" = faults ] || expected=2
         # shellcheck disable=SC2086
-        "$irp_words" $words <"$kept/text" >"$kept/told"
+        "$irp_words" $words <"$room/text" >"$room/told"
         meets "$1: $words, status" [ $? -eq "$expected" ]
-        meets "$1: $words" cmp -s "$kept/expected" "$kept/told"
+        meets "$1: $words" cmp -s "$room/expected" "$room/told"
     done
 }
 each_block try_warned <warned_words.txt
 
 # An empty text is a script without anything, with one seat and one remove lock.
-"$irp_words" json </dev/null >"$kept/json"
+"$irp_words" json </dev/null >"$room/json"
 echo '{"form":1,"seats":1,"locks":1,"completions":[],"cancels":[],"dispatches":[],"drivers":[],"setup":[],"steps":[]}' |
-    form_of | cmp -s - <(form_of <"$kept/json")
+    form_of | cmp -s - <(form_of <"$room/json")
 meets 'an empty text' [ $? -eq 0 ]
 
 # A file that isn't there is named.
-"$irp_words" json "$kept/no_such_file" >"$kept/output" 2>"$kept/told"
+"$irp_words" json "$room/no_such_file" >"$room/output" 2>"$room/told"
 meets 'no such file: status' [ $? -eq 5 ]
-echo "irp_words: $kept/no_such_file: can't be opened: there is no such file" | cmp -s - "$kept/told"
+echo "irp_words: $room/no_such_file: can't be opened: there is no such file" | cmp -s - "$room/told"
 meets 'no such file: what is told' [ $? -eq 0 ]
 
-echo "tried: $tried $wrong words"
-[ "$wrong" -eq 0 ]
+# The tables are one object, and take no further word. tests/names.bash compares what they hold.
+"$irp_words" tables >"$room/output"
+meets 'tables: status' [ $? -eq 0 ]
+"$irp_words" tables more >"$room/output" 2>"$room/told"
+meets 'tables with a file: status' [ $? -eq 4 ]
+"$irp_words" tables >/dev/full 2>"$room/told"
+meets 'tables on a full device: status' [ $? -eq 5 ]
+
+finish 'words'

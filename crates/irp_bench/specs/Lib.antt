@@ -1,2 +1,3 @@
 pub mod Makes
 pub mod Slots
+pub mod Texts

@@ -18,14 +18,8 @@ use irp_types::{Call, KnowsNothing, Reply};
 use std::alloc::Global;
 use std::sync::Wait;
 
-/// How a call was answered.
-#[derive(Clone, Copy)]
-pub struct Answered {
-    /// The reply.
-    pub reply: Reply,
-    /// How many questions were asked in the call: of dispatches, and of completion and cancel routines.
-    pub questions: usize,
-}
+/// The reply to a call, and how many questions were asked in it: of dispatches, and of completion and cancel routines.
+pub type Answered = (Reply, usize);
 
 /// Who makes calls of a manager, one after another.
 pub trait Caller {
@@ -34,7 +28,7 @@ pub trait Caller {
 
     /// Makes a call, and tells how it was answered.
     fn make(&mut self, call: Call) -> Result<Answered, NotTimed>
-        ensures { IfOk result (λ answered. makes self.old call answered.reply self.new) };
+        ensures { IfOk result (λ answered. makes self.old call answered.0 self.new) };
 }
 
 /// The manager alone: each call is one of its steps.
@@ -61,10 +55,7 @@ impl Caller for Alone {
 
     fn make(&mut self, call: Call) -> Result<Answered, NotTimed> {
         let applied = self.manager.apply(call, &KnowsNothing)?;
-        Ok(Answered {
-            reply: applied.reply,
-            questions: applied.asked.len(),
-        })
+        Ok((applied.reply, applied.asked.len()))
     }
 }
 
@@ -76,14 +67,6 @@ pub struct Recorder<'a, R, A: Ask, L: Session> {
     pub seat: Seat<L>,
 }
 
-/// How many questions were asked in the seat's last call.
-fn questions<L: Session>(seat: &Seat<L>) -> usize {
-    match seat.entries().last() {
-        Some(entry) => entry.asked.as_slice().len(),
-        None => 0,
-    }
-}
-
 /// Each call is recorded, and the seat keeps its entry.
 impl<R: Wait, A: Ask, L: Session> Caller for Recorder<'_, R, A, L> {
     ghost makes = { λ old call reply new. Keeps old.seat call reply new.seat };
@@ -92,12 +75,12 @@ impl<R: Wait, A: Ask, L: Session> Caller for Recorder<'_, R, A, L> {
         if needs_token(call) {
             return Err(NotTimed::Failed);
         }
-        let receipt = self
-            .shared
-            .call(self.rt, &mut self.seat, call, &KnowsNothing)?;
-        Ok(Answered {
-            reply: receipt.reply(),
-            questions: questions(&self.seat),
-        })
+        let (rt, seat) = (self.rt, &mut self.seat);
+        let receipt = self.shared.call(rt, seat, call, &KnowsNothing)?;
+        let questions = match self.seat.entries().last() {
+            Some(entry) => entry.asked.as_slice().len(),
+            None => 0,
+        };
+        Ok((receipt.reply(), questions))
     }
 }

@@ -24,8 +24,9 @@ impl Done {
         taken: Duration::MAX,
     };
 
-    /// So often, with texts of so many bytes, in this time.
-    pub fn new(count: u32, bytes: u64, taken: Duration) -> Done {
+    /// So often, without a text, in this time.
+    pub fn of(count: u32, taken: Duration) -> Done {
+        let bytes = 0;
         Done {
             count,
             bytes,

@@ -2,15 +2,12 @@
 //! transcripts, and their judging.
 #![tactic(auto)]
 
-mod blocks;
 mod caller;
 mod done;
-mod loads;
-mod locks;
 mod not_timed;
 mod packets;
+mod pairs;
 mod sessions;
-mod slots;
 mod table;
 mod texts;
 

@@ -1,9 +1,7 @@
 //! Why the program ends before all is timed.
 
 use irp_manager::NotRecorded;
-use irp_shared::OpenRefused;
 use irp_transcript_reader::ReadFault;
-use irp_transcript_writer::WriteFault;
 use std::alloc::{AllocError, AllocFailed};
 use std::io;
 
@@ -59,35 +57,11 @@ impl From<ReadFault> for NotTimed {
     }
 }
 
-impl From<serde_json::Error> for NotTimed {
-    fn from(error: serde_json::Error) -> NotTimed {
-        if error.is_memory() {
-            NotTimed::Memory
-        } else {
-            NotTimed::Failed
-        }
-    }
-}
-
 impl From<NotRecorded> for NotTimed {
     fn from(reason: NotRecorded) -> NotTimed {
         match reason {
             NotRecorded::Memory => NotTimed::Memory,
             _ => NotTimed::Failed,
         }
-    }
-}
-
-/// It is refused only where memory runs out: no load asks for more than 64 seats.
-impl From<OpenRefused> for NotTimed {
-    fn from(_reason: OpenRefused) -> NotTimed {
-        NotTimed::Memory
-    }
-}
-
-/// A text in memory breaks off only where memory runs out.
-impl From<WriteFault> for NotTimed {
-    fn from(_fault: WriteFault) -> NotTimed {
-        NotTimed::Memory
     }
 }

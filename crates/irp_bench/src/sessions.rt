@@ -1,4 +1,4 @@
-//! Batches by the manager alone, and in a session, where each call is recorded.
+//! Loads of calls: works by the manager alone, and in sessions, where each call is recorded.
 
 ghost use Rattle.std.specs.Prelude.{◌≡◌, true};
 ghost use Rattle.irp_types.specs.declared.limit.Limit.TheVariants.{ThirtyTwo};
@@ -8,11 +8,12 @@ ghost use Rattle.irp_types.specs.declared.routine.Rule.TheVariants.{Watch};
 ghost use Rattle.irp_shared.specs.Answered.{AnswersSo};
 
 use crate::caller::{Alone, Caller, Recorder};
+use crate::done::Done;
 use crate::not_timed::NotTimed;
-use crate::packets::{Batch, READ, Scene, WATCH, make_batch, make_ready, set_up};
+use crate::packets::{Body, READ, WATCH, Work, make_ready, repeat, set_up};
 use irp_routines::{Ask, Dispatch, Routine, Store};
 use irp_shared::{Seat, Session, Shared, Transcript, open};
-use irp_types::{Answer, DispatchId, IrpRef, Known, Plan, Rule, Shown, Status};
+use irp_types::{Answer, DeviceId, DispatchId, Known, Plan, Rule, Shown, Status};
 use std::alloc::Global;
 use std::marker::Brand;
 use std::rt::Clock;
@@ -21,46 +22,20 @@ use std::sync::ledger::Blank;
 use std::thread::{self, Threads};
 use std::time::{Duration, Instant};
 
+/// How many calls are made in rounds, by all callers together. Their entries fill a history.
+const CALLS: u32 = 1_000_000;
+
+/// How many packets are allocated and given back.
+const UNUSED: u32 = 20_000;
+
+/// How often each packet is sent.
+const SENDS: u32 = 40;
+
 /// The routines that the dispatch may name: one of rule Watch.
 const KNOWN: Known = Known {
     watch: 1,
     ..Known::NONE
 };
-
-/// What is timed, and what is there before.
-#[derive(Clone, Copy)]
-pub struct Work {
-    /// What is there before.
-    pub scene: Scene,
-    /// What is timed.
-    pub batch: Batch,
-    /// How often, by each caller.
-    pub batches: u32,
-    /// In how many seats of a session, each in a thread of its own; none: by the manager alone.
-    pub seats: Option<u32>,
-}
-
-impl Work {
-    /// How often it does what is timed, all callers together: so many calls of rounds, packets, or sends.
-    pub fn count(self) -> u32 {
-        let (each, callers) = (self.batches, self.seats.unwrap_or(1));
-        let once = match self.batch {
-            Batch::Repeated { packet, count } => count.saturating_mul(packet.counted()),
-            Batch::Sent { .. } => self.scene.packets,
-        };
-        once.saturating_mul(each).saturating_mul(callers)
-    }
-}
-
-/// How long the batches took, and the transcript where they were recorded.
-#[derive(Drop)]
-pub struct Outcome {
-    /// How long the batches took, without what came before each. Where there is more than one seat: how long it took
-    /// from the first thread's start to the last thread's end.
-    pub taken: Duration,
-    /// The transcript of the session.
-    pub transcript: Option<Transcript>,
-}
 
 /// What the dispatch plans: it passes the packet down with the completion routine where a device stands below, and else
 /// finishes it with success.
@@ -88,33 +63,38 @@ fn watches(shown: Shown) -> Answer
     }
 }
 
-/// Does the work with this caller and these packets. Answers how long the batches took. Before each batch the packets
-/// are made ready to be sent, which is not in the time.
-fn time_batches<C: Caller, R: Clock>(
-    rt: &R,
-    caller: &mut C,
-    packets: &mut [IrpRef],
-    work: Work,
-) -> Result<Duration, NotTimed> {
-    let mut taken = Duration::ZERO;
-    for _ in 0..work.batches {
-        make_ready(caller, packets)?;
-        let start = Instant::now(rt)?;
-        make_batch(caller, work.batch, packets)?;
-        taken = taken.saturating_add(start.elapsed(rt)?);
+/// One driver, whose reads each device passes down with a completion routine of rule Watch, and the lowest finishes.
+fn store(alloc: Global) -> Result<Store, NotTimed> {
+    let reads = [(READ, DispatchId(0))].to_vec(alloc)?;
+    let watch = Routine::new(Rule::Watch, Box::new(alloc, watches)?);
+    let forward = Dispatch::new(KNOWN, Box::new(alloc, forwards)?);
+    let mut store = Store::new(alloc);
+    let has_watch = store.add(watch).is_ok();
+    let has_forward = store.add_dispatch(forward).is_ok();
+    let has_driver = store.add_driver(reads).is_ok();
+    if has_watch && has_forward && has_driver {
+        return Ok(store);
     }
-    Ok(taken)
+    Err(NotTimed::Memory)
 }
 
-/// Builds the scene, and does the work with this caller. Answers how long the batches took.
+/// Does the work with this caller. Answers how long the batches took, without what came before each: the packets are
+/// made ready to be sent.
 fn timed<C: Caller, R: Clock>(
     rt: &R,
     alloc: Global,
     caller: &mut C,
     work: Work,
 ) -> Result<Duration, NotTimed> {
-    let mut packets = set_up(caller, alloc, work.scene)?;
-    time_batches(rt, caller, packets.as_mut_slice(), work)
+    let mut packets = set_up(caller, alloc, work)?;
+    let mut taken = Duration::ZERO;
+    for _ in 0..work.batches {
+        make_ready(caller, packets.as_mut_slice())?;
+        let start = Instant::now(rt)?;
+        repeat(caller, work.body, work.count, packets.as_slice())?;
+        taken = taken.saturating_add(start.elapsed(rt)?);
+    }
+    Ok(taken)
 }
 
 /// A seat that is done, and how long its batches took.
@@ -148,23 +128,11 @@ fn gathered<L: Session>(
     Ok((seats, taken))
 }
 
-/// Does the work in each of these seats of a session, in a thread of its own. All seats, and how long it took.
-fn in_seats<A: Ask + Send, L: Session + Send + Sync, R: Threads + Wait + Sync + Clock>(
-    rt: &R,
-    alloc: Global,
-    shared: &Shared<A, L>,
-    seats: Vec<Seat<L>>,
-    work: Work,
-) -> Result<(Vec<Seat<L>>, Duration), NotTimed> {
-    let start = Instant::now(rt)?;
-    let made = thread::map_vec(rt, seats, &|seat| in_seat(rt, alloc, shared, seat, work))?;
-    let all = start.elapsed(rt);
-    let (seats, own) = gathered(alloc, made)?;
-    let taken = if seats.len() == 1 { own } else { all? };
-    Ok((seats, taken))
-}
+/// How long a work took, and the transcript where it was recorded.
+pub type Outcome = (Duration, Option<Transcript>);
 
-/// Does the work in a session of so many seats.
+/// Does the work in a session of so many seats, each in a thread of its own. Where there is more than one seat it took
+/// from the first thread's start to the last thread's end.
 fn recorded<A: Ask + Send + Drop, L: Session + Send + Sync, R: Threads + Wait + Sync + Clock>(
     rt: &R,
     alloc: Global,
@@ -178,35 +146,29 @@ fn recorded<A: Ask + Send + Drop, L: Session + Send + Sync, R: Threads + Wait + 
     requires fixed { L.fixed ≡ record { locks = 1; tables = A.tables ask; limit = ThirtyTwo } }
     requires may { AnswersSo (A.may_plan ask) (A.may_answer ask) (A.may_cancel ask) L.may }
 {
-    let (shared, places) = open::<A, L>(alloc, blank, ask, 1, seats)?;
-    let (places, taken) = in_seats(rt, alloc, &shared, places, work)?;
+    let Ok((shared, places)) = open::<A, L>(alloc, blank, ask, 1, seats) else {
+        return Err(NotTimed::Memory);
+    };
+    let start = Instant::now(rt)?;
+    let made = thread::map_vec(rt, places, &|seat| in_seat(rt, alloc, &shared, seat, work))?;
+    let all = start.elapsed(rt)?;
+    let (places, own) = gathered(alloc, made)?;
     match shared.close(places) {
-        Ok(transcript) => Ok(Outcome {
-            taken,
-            transcript: Some(transcript),
-        }),
+        Ok(transcript) => Ok((if seats == 1 { own } else { all }, Some(transcript))),
         Err(_) => Err(NotTimed::Failed),
     }
 }
 
-/// Does the work by the manager alone.
-fn alone<R: Clock>(rt: &R, alloc: Global, store: Store, work: Work) -> Result<Outcome, NotTimed> {
-    let taken = timed(rt, alloc, &mut Alone::new(alloc, store), work);
-    Ok(Outcome {
-        taken: taken?,
-        transcript: None,
-    })
-}
-
-/// Does the work with this store.
-fn with_store<R: Threads + Wait + Sync + Clock>(
+/// Does the work in a session of so many seats; where there are none, by the manager alone.
+pub fn do_work<R: Threads + Wait + Sync + Clock + AllocGlobal>(
     rt: &R,
-    alloc: Global,
-    store: Store,
+    seats: Option<u32>,
     work: Work,
 ) -> Result<Outcome, NotTimed> {
-    match work.seats {
-        None => alone(rt, alloc, store, work),
+    let alloc = rt.alloc();
+    let store = store(alloc)?;
+    match seats {
+        None => Ok((timed(rt, alloc, &mut Alone::new(alloc, store), work)?, None)),
         Some(seats) => {
             let blank = Blank::new(u64::from(seats));
             recorded::<Store, Brand, R>(rt, alloc, blank, store, seats, work)
@@ -214,22 +176,82 @@ fn with_store<R: Threads + Wait + Sync + Clock>(
     }
 }
 
-/// Does the work, with one driver, whose reads each device passes down with a completion routine of rule Watch, and the
-/// lowest finishes.
-pub fn do_work<R: Threads + Wait + Sync + Clock + AllocGlobal>(
-    rt: &R,
-    work: Work,
-) -> Result<Outcome, NotTimed> {
-    let alloc = rt.alloc();
-    let reads = [(READ, DispatchId(0))].to_vec(alloc)?;
-    let watch = Routine::new(Rule::Watch, Box::new(alloc, watches)?);
-    let forward = Dispatch::new(KNOWN, Box::new(alloc, forwards)?);
-    let mut store = Store::new(alloc);
-    let has_watch = store.add(watch).is_ok();
-    let has_forward = store.add_dispatch(forward).is_ok();
-    let has_driver = store.add_driver(reads).is_ok();
-    if has_watch && has_forward && has_driver {
-        return with_store(rt, alloc, store, work);
+/// What is done in calls, for a number.
+#[derive(Clone, Copy)]
+pub enum Calls {
+    /// Rounds of four calls, by so many threads.
+    Rounds,
+    /// Rounds of four calls by one thread, in one session of so many entries after another.
+    Entries,
+    /// Packets are allocated and given back, while so many are live, this one too.
+    Unused,
+    /// Packets are sent through so many devices.
+    Sends,
+}
+
+/// No packet and no device is there before, and nothing is done in one batch of rounds.
+const NOTHING: Work = Work {
+    devices: 0,
+    packets: 0,
+    locations: 16,
+    body: Body::Round,
+    count: 0,
+    batches: 1,
+};
+
+/// So many packets, each with as many locations as there are devices, and each sent so often.
+pub fn sends(devices: u32, packets: u32, batches: u32) -> Work {
+    let target = DeviceId(devices.saturating_sub(1));
+    Work {
+        devices,
+        packets,
+        locations: u8::try_from(devices).unwrap_or(u8::MAX),
+        body: Body::Send { target },
+        count: packets as usize,
+        batches,
     }
-    Err(NotTimed::Memory)
+}
+
+/// So many calls in rounds.
+fn rounds(calls: u32) -> Work {
+    Work {
+        count: calls as usize / 4,
+        ..NOTHING
+    }
+}
+
+/// Packets that are allocated and given back, while so many are live.
+fn unused(live: u32) -> Work {
+    Work {
+        packets: live.saturating_sub(1),
+        body: Body::Unused,
+        count: UNUSED as usize,
+        ..NOTHING
+    }
+}
+
+/// Times calls, by the manager alone or in sessions. The time is that of a call of a round, of a packet, or of a send;
+/// where there are more threads than one, those of all threads count. Sessions of fewer entries than there are calls
+/// follow one another, and their times are added up.
+pub fn time_calls<R: Threads + Wait + Sync + Clock + AllocGlobal>(
+    rt: &R,
+    calls: Calls,
+    number: u32,
+    is_recorded: bool,
+) -> Result<Done, NotTimed> {
+    let threads = if is_recorded { number } else { 1 };
+    let packets = if is_recorded { 500 } else { 1_000 };
+    let part = |number: u32| CALLS.checked_div(number).unwrap_or(0);
+    let (work, seats, sessions, count) = match calls {
+        Calls::Rounds => (rounds(part(threads)), threads, 1, CALLS),
+        Calls::Entries => (rounds(number), 1, part(number), CALLS),
+        Calls::Unused => (unused(number), 1, 1, UNUSED),
+        Calls::Sends => (sends(number, packets, SENDS), 1, 1, packets * SENDS),
+    };
+    let mut taken = Duration::ZERO;
+    for _ in 0..sessions {
+        let seats = if is_recorded { Some(seats) } else { None };
+        taken = taken.saturating_add(do_work(rt, seats, work)?.0);
+    }
+    Ok(Done::of(count, taken))
 }

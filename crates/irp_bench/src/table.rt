@@ -1,11 +1,9 @@
 //! The table of all loads, and the loop that times them.
 
-use crate::blocks::read_and_judge;
 use crate::done::Done;
-use crate::loads::{Calls, time_calls};
-use crate::locks::{acquire_and_release, add_and_subtract};
 use crate::not_timed::NotTimed;
-use crate::slots::{Pair, pairs_on_slots};
+use crate::pairs::{Pair, acquire_and_release, add_and_subtract, pairs_on_slots};
+use crate::sessions::{Calls, time_calls};
 use crate::texts::{Sample, Task, perform, record_sample};
 use std::rt::Clock;
 use std::sync::Wait;
@@ -23,7 +21,6 @@ enum Load {
     Alone(Calls),
     Recorded(Calls),
     Text(Task),
-    Blocks,
 }
 
 /// What a word asks for: a load, with its name, and another that is timed beside it, for each of some numbers.
@@ -37,149 +34,79 @@ struct Row {
     numbers: &'static [u32],
 }
 
-/// All that the program times, in this order.
-static TABLE: [Row; 11] = [
-    Row {
-        word: "locks",
-        name: "acquire and release, threads",
-        load: Load::Lock,
-        beside_name: "fetch-add and fetch-sub",
-        beside: Load::Word,
-        numbers: &[1, 4],
-    },
-    Row {
-        word: "slots",
-        name: "publish and withdraw, slots",
-        load: Load::Slot(Pair::Withdrawn),
-        beside_name: "two swaps and a fetch-or",
-        beside: Load::Slot(Pair::Bare),
-        numbers: &[64],
-    },
-    Row {
-        word: "slots",
-        name: "publish and request, slots",
-        load: Load::Slot(Pair::Requested),
-        beside_name: "two swaps and a fetch-or",
-        beside: Load::Slot(Pair::Bare),
-        numbers: &[64],
-    },
-    Row {
-        word: "calls",
-        name: "a recorded call, of four, threads",
-        load: Load::Recorded(Calls::Rounds),
-        beside_name: "by the manager alone",
-        beside: Load::Alone(Calls::Rounds),
-        numbers: &[1, 2, 4, 8],
-    },
-    Row {
-        word: "calls",
-        name: "a recorded call, of four, entries",
-        load: Load::Recorded(Calls::Entries),
-        beside_name: "by the manager alone",
-        beside: Load::Alone(Calls::Entries),
-        numbers: &[1_000, 10_000, 100_000, 1_000_000],
-    },
-    Row {
-        word: "calls",
-        name: "a packet allocated and given back, live packets",
-        load: Load::Alone(Calls::Unused),
-        beside_name: "recorded",
-        beside: Load::Recorded(Calls::Unused),
-        numbers: &[1, 64, 4_096],
-    },
-    Row {
-        word: "calls",
-        name: "a send, devices",
-        load: Load::Alone(Calls::Sends),
-        beside_name: "recorded",
-        beside: Load::Recorded(Calls::Sends),
-        numbers: &[1, 4, 16, 32],
-    },
-    Row {
-        word: "write",
-        name: "write_transcript, entries",
-        load: Load::Text(Task::Write),
-        beside_name: "serde_json alone",
-        beside: Load::Text(Task::WriteValues),
-        numbers: &[100_000, 1_000_000],
-    },
-    Row {
-        word: "read",
-        name: "read_transcript, entries",
-        load: Load::Text(Task::Read),
-        beside_name: "serde_json alone",
-        beside: Load::Text(Task::ReadValues),
-        numbers: &[100_000, 1_000_000],
-    },
-    Row {
-        word: "check",
-        name: "check, entries",
-        load: Load::Text(Task::Judge),
-        beside_name: "read_transcript",
-        beside: Load::Text(Task::Read),
-        numbers: &[10_000, 100_000, 1_000_000],
-    },
-    Row {
-        word: "check",
-        name: "read and judged in blocks, entries",
-        load: Load::Blocks,
-        beside_name: "read_transcript",
-        beside: Load::Text(Task::Read),
-        numbers: &[1_000_000],
-    },
-];
+/// Rows: a word, the name of a load, the load, and what is timed beside it; then the numbers.
+macro_rules! rows {
+    ($($word:literal: $name:literal $load:expr; $beside_name:literal $beside:expr; $numbers:expr;)*) => {
+        [$(Row {
+            word: $word,
+            name: $name,
+            load: $load,
+            beside_name: $beside_name,
+            beside: $beside,
+            numbers: &$numbers,
+        }),*]
+    };
+}
 
-/// Runs a load once.
+/// All that the program times, in this order.
+static TABLE: [Row; 11] = rows! {
+    "locks": "acquire and release, threads" Load::Lock; "fetch-add and fetch-sub" Load::Word; [1, 4];
+    "slots": "publish and withdraw, slots" Load::Slot(Pair::Withdrawn);
+        "two swaps and a fetch-or" Load::Slot(Pair::Bare); [64];
+    "slots": "publish and request, slots" Load::Slot(Pair::Requested);
+        "two swaps and a fetch-or" Load::Slot(Pair::Bare); [64];
+    "calls": "a recorded call, of four, threads" Load::Recorded(Calls::Rounds);
+        "by the manager alone" Load::Alone(Calls::Rounds); [1, 2, 4, 8];
+    "calls": "a recorded call, of four, entries" Load::Recorded(Calls::Entries);
+        "by the manager alone" Load::Alone(Calls::Entries); [1_000, 10_000, 100_000, 1_000_000];
+    "calls": "a packet allocated and given back, live packets" Load::Alone(Calls::Unused);
+        "recorded" Load::Recorded(Calls::Unused); [1, 64, 4_096];
+    "calls": "a send, devices" Load::Alone(Calls::Sends);
+        "recorded" Load::Recorded(Calls::Sends); [1, 4, 16, 32];
+    "write": "write_transcript, entries" Load::Text(Task::Write);
+        "serde_json alone" Load::Text(Task::WriteValues); [100_000, 1_000_000];
+    "read": "read_transcript, entries" Load::Text(Task::Read);
+        "serde_json alone" Load::Text(Task::ReadValues); [100_000, 1_000_000];
+    "check": "check, entries" Load::Text(Task::Judge);
+        "read_transcript" Load::Text(Task::Read); [10_000, 100_000, 1_000_000];
+    "check": "read and judged in blocks, entries" Load::Text(Task::Blocks);
+        "read_transcript" Load::Text(Task::Read); [1_000_000];
+};
+
+/// Runs a load once, with a sample where it is of texts.
 fn run<R: Threads + Wait + Sync + Clock + AllocGlobal>(
     rt: &R,
     load: Load,
     number: u32,
     sample: Option<&Sample>,
 ) -> Result<Done, NotTimed> {
-    match load {
-        Load::Lock => acquire_and_release(rt, number),
-        Load::Word => add_and_subtract(rt, number),
-        Load::Slot(pair) => pairs_on_slots(rt, pair, number),
-        Load::Alone(calls) => time_calls(rt, calls, number, false),
-        Load::Recorded(calls) => time_calls(rt, calls, number, true),
-        Load::Text(task) => match sample {
-            Some(sample) => perform(rt, rt.alloc(), task, sample),
-            None => Err(NotTimed::Failed),
-        },
-        Load::Blocks => match sample {
-            Some(sample) => read_and_judge(rt, rt.alloc(), sample),
-            None => Err(NotTimed::Failed),
-        },
+    match (load, sample) {
+        (Load::Lock, _) => acquire_and_release(rt, number),
+        (Load::Word, _) => add_and_subtract(rt, number),
+        (Load::Slot(pair), _) => pairs_on_slots(rt, pair, number),
+        (Load::Alone(calls), _) => time_calls(rt, calls, number, false),
+        (Load::Recorded(calls), _) => time_calls(rt, calls, number, true),
+        (Load::Text(task), Some(sample)) => perform(rt, rt.alloc(), task, sample),
+        (Load::Text(_), None) => Err(NotTimed::Failed),
     }
 }
 
-/// The least times of the two loads of a row, which take turns, with this sample.
-fn take_turns<R: Threads + Wait + Sync + Clock + AllocGlobal>(
-    rt: &R,
-    row: Row,
-    number: u32,
-    sample: Option<&Sample>,
-) -> Result<(Done, Done), NotTimed> {
-    let mut first = Done::NEVER;
-    let mut second = Done::NEVER;
-    for _ in 0..ROUNDS {
-        first = first.min(run(rt, row.load, number, sample)?);
-        second = second.min(run(rt, row.beside, number, sample)?);
-    }
-    Ok((first, second))
-}
-
-/// The least times of the two loads of a row, with a sample where they want one.
+/// The least times of the two loads of a row, which take turns.
 fn least<R: Threads + Wait + Sync + Clock + AllocGlobal>(
     rt: &R,
     row: Row,
     number: u32,
 ) -> Result<(Done, Done), NotTimed> {
-    if !matches!(row.load, Load::Text(_) | Load::Blocks) {
-        return take_turns(rt, row, number, None);
+    let sample = match row.load {
+        Load::Text(_) => Some(record_sample(rt, number)?),
+        _ => None,
+    };
+    let (mut first, mut second) = (Done::NEVER, Done::NEVER);
+    for _ in 0..ROUNDS {
+        first = first.min(run(rt, row.load, number, sample.as_ref())?);
+        second = second.min(run(rt, row.beside, number, sample.as_ref())?);
     }
-    let sample = record_sample(rt, number)?;
-    take_turns(rt, row, number, Some(&sample))
+    Ok((first, second))
 }
 
 /// Times a row for each of its numbers, and writes a line for each to standard error.

@@ -1,19 +1,16 @@
 //! Transcripts of sessions: their texts, written and read, also by `serde_json` alone, and their judging.
 
-ghost use Rattle.std.specs.Prelude.{◌≡◌, length, Some, Ok, IfOk};
-ghost use Rattle.irp_judge.specs.Checked.{IsVerdictOn};
-ghost use Rattle.irp_judge.specs.declared.verdict.Verdict.TheVariants.{Legal};
-ghost use Rattle.irp_transcript.specs.Transcripts.{no_lines};
-ghost use Rattle.irp_transcript_reader.specs.Reading.{ReadsFrom, cut};
+ghost use Rattle.std.specs.Prelude.{◌≡◌, Some, IfOk};
+ghost use Rattle.irp_bench.specs.Texts.{ComesOf, IsExpected};
+ghost use Rattle.irp_transcript.specs.Headers.{IsHeader};
 ghost use Rattle.irp_transcript_writer.specs.Lines.{lines, text_of};
 
 use crate::done::Done;
-use crate::loads::sends;
 use crate::not_timed::NotTimed;
-use crate::sessions::do_work;
-use irp_fast_reader::read_transcript;
-use irp_judge::{Verdict, check};
-use irp_shared::Transcript;
+use crate::sessions::{do_work, sends};
+use irp_fast_reader::{Line, Reader, read_transcript};
+use irp_judge::{Judge, Verdict, check};
+use irp_shared::{Header, Transcript};
 use irp_streams::{Failed, Out};
 use irp_transcript_writer::write_transcript;
 use serde_json::Value;
@@ -25,6 +22,9 @@ use std::time::Instant;
 
 /// How many lines' values are written by `serde_json` alone.
 const LINES: usize = 10_000;
+
+/// How many bytes a block has, but for the last one.
+const BLOCK: usize = 262_144;
 
 /// How many devices stand in the stack that the packet is sent through.
 const DEVICES: u32 = 4;
@@ -45,14 +45,16 @@ pub enum Task {
     ReadValues,
     /// The transcript is judged.
     Judge,
+    /// The text is read and judged block after block, as `irpx check` does.
+    Blocks,
 }
 
 /// A transcript, its text, and the values of the text's first lines.
 #[derive(Drop)]
 pub struct Sample {
-    pub entries: u32,
-    pub transcript: Transcript,
-    pub text: Vec<u8>,
+    entries: u32,
+    transcript: Transcript,
+    text: Vec<u8>,
     values: Vec<Value>,
     /// How many bytes the lines of these values have.
     bytes: u64,
@@ -63,7 +65,11 @@ pub struct Sample {
 enum Made {
     Text(Vec<u8>),
     Transcript(Transcript),
-    Nothing,
+    Verdict(Verdict),
+    /// So many bytes.
+    Bytes(u64),
+    /// So many lines.
+    Lines(u64),
 }
 
 /// A text in memory, and how often it could not grow.
@@ -96,12 +102,14 @@ fn text(alloc: Global, transcript: &Transcript, room: usize) -> Result<Vec<u8>, 
         bytes: Vec::with_capacity(alloc, room)?,
         failures: 0,
     };
-    write_transcript(alloc, &mut text, transcript)?;
-    let TextOut { bytes, failures: _ } = text;
-    Ok(bytes)
+    match write_transcript(alloc, &mut text, transcript) {
+        Ok(()) => Ok(text.bytes),
+        Err(_) => Err(NotTimed::Memory),
+    }
 }
 
-/// The values of the text's first lines, and how many bytes these lines have.
+/// The values of the text's first lines, and how many bytes these lines have. That a line isn't read is for want of
+/// memory.
 fn first_values(alloc: Global, text: &[u8]) -> Result<(Vec<Value>, u64), NotTimed> {
     let mut values = Vec::new(alloc);
     let mut bytes: u64 = 0;
@@ -109,25 +117,15 @@ fn first_values(alloc: Global, text: &[u8]) -> Result<(Vec<Value>, u64), NotTime
         if values.len() == LINES {
             return Ok((values, bytes));
         }
-        serde_json::push(&mut values, Value::from_slice(alloc, line)?)?;
+        let Ok(value) = Value::from_slice(alloc, line) else {
+            return Err(NotTimed::Memory);
+        };
+        if serde_json::push(&mut values, value).is_err() {
+            return Err(NotTimed::Memory);
+        }
         bytes = bytes.saturating_add(line.len() as u64);
     }
     Err(NotTimed::Failed)
-}
-
-/// A transcript of so many entries beside its text, and the values of the text's first lines.
-fn sample_of(alloc: Global, entries: u32, transcript: Transcript) -> Result<Sample, NotTimed>
-    ensures { IfOk result (λ sample. sample.text.items ≡ text_of (lines sample.transcript)) }
-{
-    let text = text(alloc, &transcript, 0)?;
-    let (values, bytes) = first_values(alloc, text.as_slice())?;
-    Ok(Sample {
-        entries,
-        transcript,
-        text,
-        values,
-        bytes,
-    })
 }
 
 /// A transcript of so many entries, and its text: in a session of one seat, a packet is sent through four devices again
@@ -144,14 +142,21 @@ pub fn record_sample<R: Threads + Wait + Sync + Clock + AllocGlobal>(
     ensures { IfOk result (λ sample. sample.text.items ≡ text_of (lines sample.transcript)) }
 {
     let times = entries.saturating_sub(FIRST_CALLS) / 4;
-    let work = sends(DEVICES, 1, times, Some(1));
-    let Some(transcript) = do_work(rt, work)?.transcript else {
+    let Some(transcript) = do_work(rt, Some(1), sends(DEVICES, 1, times))?.1 else {
         return Err(NotTimed::Failed);
     };
     if transcript.entries().len() != entries as usize {
         return Err(NotTimed::Failed);
     }
-    sample_of(rt.alloc(), entries, transcript)
+    let text = text(rt.alloc(), &transcript, 0)?;
+    let (values, bytes) = first_values(rt.alloc(), text.as_slice())?;
+    Ok(Sample {
+        entries,
+        transcript,
+        text,
+        values,
+        bytes,
+    })
 }
 
 /// Writes each value's compact text, and counts the bytes with a newline behind each.
@@ -164,65 +169,92 @@ fn write_values(alloc: Global, values: &[Value]) -> Result<u64, AllocError> {
     Ok(bytes)
 }
 
-/// Reads the text as a transcript, which has to have all of its entries.
-fn read(alloc: Global, sample: &Sample) -> Result<Transcript, NotTimed>
-    ensures { IfOk result (λ made. ReadsFrom no_lines 0 (Ok made) (cut sample.now.text.items)
-        × (length made.entries ≡ sample.now.entries)) }
-{
-    let transcript = read_transcript(alloc, sample.text.as_slice())?;
-    if transcript.entries().len() == sample.entries as usize {
-        return Ok(transcript);
-    }
-    Err(NotTimed::Failed)
-}
-
 /// Reads the value of each line, drops it, and counts the lines.
 fn read_values(alloc: Global, text: &[u8]) -> Result<u64, NotTimed> {
     let mut lines: u64 = 0;
     for line in text.split_inclusive(|&byte| byte == b'\n') {
-        let _value = Value::from_slice(alloc, line)?;
+        if Value::from_slice(alloc, line).is_err() {
+            return Err(NotTimed::Memory);
+        }
         lines = lines.saturating_add(1);
     }
     Ok(lines)
 }
 
-/// Judges the transcript, which has to be legal, with all of its entries.
-fn judge(alloc: Global, sample: &Sample) -> Result<(), NotTimed>
-    ensures { IfOk result (λ _. IsVerdictOn sample.now.transcript (Legal sample.now.entries)) }
-{
-    let entries = u64::from(sample.entries);
-    if check(alloc, &sample.transcript)? == (Verdict::Legal { entries }) {
-        return Ok(());
+/// Reads the lines that end in a block, and has the judge judge their entries.
+fn judge_block(
+    alloc: Global,
+    reader: &mut Reader,
+    judge: &mut Judge,
+    block: &[u8],
+) -> Result<(), NotTimed> {
+    let mut rest = block;
+    while !rest.is_empty() {
+        let Some((line, count)) = reader.next(alloc, rest)? else {
+            return Ok(());
+        };
+        if let Line::Entry(entry) = &line {
+            judge.feed(entry)?;
+        }
+        rest = &rest[count..];
     }
-    Err(NotTimed::NotLegal)
+    Ok(())
 }
 
-/// Nothing, where a count is as it has to be.
-fn counted(count: u64, expected: u64) -> Result<Made, NotTimed> {
-    if count == expected {
-        return Ok(Made::Nothing);
+/// The verdict on a text with this header, read and judged block after block.
+fn verdict_on(alloc: Global, header: &Header, text: &[u8]) -> Result<Verdict, NotTimed>
+    requires { IsHeader header.now }
+{
+    let mut reader = Reader::new(alloc);
+    let mut judge = Judge::new(alloc, header);
+    for block in text.chunks(BLOCK) {
+        judge_block(alloc, &mut reader, &mut judge, block)?;
     }
-    Err(NotTimed::Failed)
+    reader.finish()?;
+    Ok(judge.verdict())
 }
 
 /// Does this with the sample.
-fn work(alloc: Global, task: Task, sample: &Sample) -> Result<Made, NotTimed> {
-    match task {
-        Task::Write => Ok(Made::Text(text(alloc, &sample.transcript, sample.text.len())?)),
-        Task::WriteValues => counted(write_values(alloc, sample.values.as_slice())?, sample.bytes),
-        Task::Read => Ok(Made::Transcript(read(alloc, sample)?)),
-        Task::ReadValues => counted(
-            read_values(alloc, sample.text.as_slice())?,
-            u64::from(sample.entries) + 1,
-        ),
-        Task::Judge => {
-            judge(alloc, sample)?;
-            Ok(Made::Nothing)
+fn work(alloc: Global, task: Task, sample: &Sample) -> Result<Made, NotTimed>
+    ensures { IfOk result (λ made. ComesOf task sample.now made) }
+{
+    let (transcript, given) = (&sample.transcript, sample.text.as_slice());
+    Ok(match task {
+        Task::Write => Made::Text(text(alloc, transcript, given.len())?),
+        Task::WriteValues => Made::Bytes(write_values(alloc, sample.values.as_slice())?),
+        Task::Read => Made::Transcript(read_transcript(alloc, given)?),
+        Task::ReadValues => Made::Lines(read_values(alloc, given)?),
+        Task::Judge => Made::Verdict(check(alloc, transcript)?),
+        Task::Blocks => {
+            transcript.is_one();
+            let Some(header) = transcript.header() else {
+                return Err(NotTimed::Failed);
+            };
+            Made::Verdict(verdict_on(alloc, header, given)?)
         }
+    })
+}
+
+/// An error unless this is what had to come of a task: all of the entries, lines or bytes, and each legal.
+fn expect(sample: &Sample, made: &Made) -> Result<(), NotTimed>
+    ensures { IfOk result (λ _. IsExpected sample.now made.now) }
+{
+    let entries = u64::from(sample.entries);
+    let is_expected = match made {
+        Made::Text(text) => text.len() == sample.text.len(),
+        Made::Transcript(made) => made.entries().len() == sample.entries as usize,
+        Made::Verdict(verdict) => *verdict == (Verdict::Legal { entries }),
+        Made::Bytes(bytes) => *bytes == sample.bytes,
+        Made::Lines(lines) => *lines == entries + 1,
+    };
+    match made {
+        _ if is_expected => Ok(()),
+        Made::Verdict(_) => Err(NotTimed::NotLegal),
+        _ => Err(NotTimed::Failed),
     }
 }
 
-/// Times a task. To drop what came of it is not in the time.
+/// Times a task. To look at what came of it, and to drop that, is not in the time.
 pub fn perform<R: Clock>(
     rt: &R,
     alloc: Global,
@@ -232,10 +264,17 @@ pub fn perform<R: Clock>(
     let start = Instant::now(rt)?;
     let made = work(alloc, task, sample)?;
     let taken = start.elapsed(rt);
+    let expected = expect(sample, &made);
     drop(made);
+    expected?;
+    let (count, bytes) = match task {
+        Task::WriteValues => (LINES as u32, sample.bytes),
+        _ => (sample.entries, sample.text.len() as u64),
+    };
     let taken = taken?;
-    Ok(match task {
-        Task::WriteValues => Done::new(LINES as u32, sample.bytes, taken),
-        _ => Done::new(sample.entries, sample.text.len() as u64, taken),
+    Ok(Done {
+        count,
+        bytes,
+        taken,
     })
 }

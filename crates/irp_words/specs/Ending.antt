@@ -61,7 +61,7 @@ complaint_of Differs =
     Some (codes "irp_words: a fault of this program: the JSON isn't read as what the words say")
 complaint_of NoMemory = Some (codes "irp_words: out of memory")
 complaint_of OtherWords =
-    Some (codes "irp_words: usage: irp_words json, words or faults, then [FILE]; see irp_words --help")
+    Some (codes "irp_words: usage: irp_words json, words or faults [FILE], or tables; see --help")
 complaint_of (NoFile name reason) =
     Some (codes "irp_words: " ++ (string_bytes name ++ (codes ": can't be opened: " ++ reason_text reason)))
 complaint_of Failed = Some (codes "irp_words: input or output failed")

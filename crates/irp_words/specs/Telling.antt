@@ -1,10 +1,10 @@
 -- What the program prints of a text in words.
-use Rattle.std.specs.Prelude.{ℕ, List, Option, Ok}
+use Rattle.std.specs.Prelude.{◌≡◌, ℕ, List, Option, Ok}
 use Rattle.std.specs.Io.KnownBytes.{Appends}
 use Rattle.irp_script_reader.specs.Scripts.{ReadsScript}
 use Rattle.irp_script_reader.specs.declared.script.Script.{Script}
 use Rattle.irp_words.specs.declared.ending.Ending.{Ending}
-use Rattle.irp_words.specs.declared.ending.Ending.TheVariants.{Done}
+use Rattle.irp_words.specs.declared.ending.Ending.TheVariants.{Done, NoMemory, Failed}
 use Rattle.irp_words.specs.declared.orders.Task.{Task}
 use Rattle.irp_words.specs.declared.orders.Task.TheVariants.{Json}
 
@@ -23,3 +23,10 @@ Fails ending = Unit {0}
 abbrev pub Obeys : Task → Ending → Option (List ℕ) → Option (List ℕ) → Type 0
 Obeys Json ending before after = Prints ending before after
 Obeys task ending before after = Unit {0}
+
+-- a whole text went out; else memory ran out, or the output failed
+abbrev pub PrintsWhole : Ending → Option (List ℕ) → Option (List ℕ) → Type 0
+PrintsWhole Done before after = (text : List ℕ) × Appends before after text
+PrintsWhole NoMemory before after = before ≡ after
+PrintsWhole Failed before after = Unit {0}
+PrintsWhole ending before after = ⊥

@@ -17,6 +17,7 @@ fn command<'a>(alloc: Global) -> Result<Command<'a>, AllocError> {
     let command = Command::new(alloc, "irp_words").subcommand_required(true);
     let command = command.subcommand(subcommand(alloc, "json")?)?;
     let command = command.subcommand(subcommand(alloc, "words")?)?;
+    let command = command.subcommand(Command::new(alloc, "tables"))?;
     let strict = Arg::new(alloc, "strict")
         .long("strict")
         .action(ArgAction::SetTrue);
@@ -24,13 +25,14 @@ fn command<'a>(alloc: Global) -> Result<Command<'a>, AllocError> {
 }
 
 /// What a subcommand asks for.
-fn task_of(name: &str, matches: &ArgMatches<'_>) -> Result<Task, Unasked> {
+fn order_of(name: &str, matches: &ArgMatches<'_>) -> Result<Order, Unasked> {
     match name {
-        "json" => Ok(Task::Json),
-        "words" => Ok(Task::Words),
-        "faults" => Ok(Task::Faults {
+        "json" => Ok(Order::Read(Task::Json)),
+        "words" => Ok(Order::Read(Task::Words)),
+        "faults" => Ok(Order::Read(Task::Faults {
             strict: matches.get_flag("strict"),
-        }),
+        })),
+        "tables" => Ok(Order::Tables),
         _ => Err(Unasked::Usage),
     }
 }
@@ -40,10 +42,12 @@ fn asked_of<'a>(matches: &ArgMatches<'a>) -> Result<Asked<'a>, Unasked> {
     let Some((name, inner)) = matches.subcommand() else {
         return Err(Unasked::Usage);
     };
-    Ok(Asked {
-        order: Order::Read(task_of(name, inner)?),
-        file: inner.get_str("file"),
-    })
+    let order = order_of(name, inner)?;
+    let file = match order {
+        Order::Read(_) => inner.get_str("file"),
+        _ => None,
+    };
+    Ok(Asked { order, file })
 }
 
 /// What words that clap doesn't match ask for.

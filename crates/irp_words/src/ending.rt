@@ -65,7 +65,7 @@ impl fmt::Display for Ending {
             ),
             Ending::NoMemory => f.write_str("irp_words: out of memory"),
             Ending::OtherWords => f.write_str(
-                "irp_words: usage: irp_words json, words or faults, then [FILE]; see irp_words --help",
+                "irp_words: usage: irp_words json, words or faults [FILE], or tables; see --help",
             ),
             Ending::NoFile { name, reason } => {
                 write!(f, "irp_words: {name}: can't be opened: {reason}")

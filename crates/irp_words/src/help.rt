@@ -10,6 +10,7 @@ irp_words takes scripts as people write them: a step a line, with names, comment
 Usage: irp_words json [FILE]
        irp_words words [FILE]
        irp_words faults [--strict] [FILE]
+       irp_words tables
 
 The text is read from FILE, or from standard input.
 
@@ -17,6 +18,7 @@ The text is read from FILE, or from standard input.
   words   prints a script of JSON in words, with made-up names
   faults  prints what is wrong with a script in words, or with one of JSON, each with its line and column; where
           nothing is wrong, warnings of what is hardly meant
+  tables  prints the names of steps, refusals, statuses and codes as JSON
 
   --strict  ends with status 2 where there is a warning
   --help    prints this

@@ -5,6 +5,7 @@ mod command_line;
 mod ending;
 mod help;
 mod orders;
+mod tables;
 mod telling;
 
 ghost use Rattle.irp_words.specs.Telling.{Obeys};
@@ -48,6 +49,7 @@ fn run_on<O: Out, E: Out>(
 ) -> Ending {
     let task = match asked.order {
         Order::Help => return help::help(output),
+        Order::Tables => return tables::tell_tables(rt.alloc(), output),
         Order::Read(task) => task,
     };
     match open_input(rt, asked.file) {

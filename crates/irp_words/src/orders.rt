@@ -16,6 +16,8 @@ pub enum Task {
 pub enum Order {
     /// Write the help.
     Help,
+    /// Write the tables of names.
+    Tables,
     /// Read a text and do this with it.
     Read(Task),
 }

@@ -1,0 +1,244 @@
+//! The tables of names as JSON, for programs that write other lists or compare them. Source: this project's own format.
+
+ghost use Rattle.std.specs.Prelude.{IfOk};
+ghost use Rattle.irp_words.specs.Telling.{PrintsWhole};
+
+use crate::ending::Ending;
+use irp_forms::HasName;
+use irp_grammar::keys_of;
+use irp_names::{
+    Act, act_of, major_name, minor_name, plan_names, refusal_meaning, rule_names, status_names,
+    windows_name,
+};
+use irp_streams::{Out, put_all};
+use irp_types::limits::LAST_MAJOR;
+use irp_types::{Call, DeviceId, IrpRef, Party, Refusal, Status};
+use std::alloc::{AllocError, Global};
+
+/// The packet of the calls below.
+const IRP: IrpRef = IrpRef { slot: 0, use_no: 1 };
+
+/// A call of each kind for which a refusal may have a name in Windows.
+static CALLS: [Call; 5] = [
+    Call::Delete {
+        device: DeviceId(0),
+    },
+    Call::Reuse {
+        irp: IRP,
+        status: Status::SUCCESS,
+    },
+    Call::CallDriver {
+        party: Party::Originator,
+        irp: IRP,
+        target: DeviceId(0),
+    },
+    Call::Complete {
+        party: Party::Originator,
+        irp: IRP,
+        status: Status::SUCCESS,
+        information: 0,
+    },
+    Call::FinishTaken {
+        irp: IRP,
+        token: 1,
+        status: Status::SUCCESS,
+        information: 0,
+    },
+];
+
+/// A text of JSON that is made.
+#[derive(Drop)]
+struct Json {
+    text: String,
+    /// Whether memory ran out.
+    ran_out: bool,
+    /// What stands before the next row of a table.
+    comma: &'static str,
+}
+
+impl Json {
+    /// Puts a text.
+    fn put(&mut self, text: &str) {
+        if self.text.push_str(text).is_err() {
+            self.ran_out = true;
+        }
+    }
+
+    /// Puts a name in quotation marks. No name here has a character that JSON writes otherwise.
+    fn name(&mut self, name: &str) {
+        self.put("\"");
+        self.put(name);
+        self.put("\"");
+    }
+
+    /// Puts a key and the name under it.
+    fn member(&mut self, before: &str, key: &str, name: &str) {
+        self.put(before);
+        self.name(key);
+        self.put(":");
+        self.name(name);
+    }
+
+    /// Puts a number, in decimal.
+    fn number(&mut self, before: &str, number: u32) {
+        if write!(&mut self.text, "{before}{number}").is_err() {
+            self.ran_out = true;
+        }
+    }
+
+    /// Puts numbers and a name, as a row.
+    fn row(&mut self, numbers: &[u32], name: &str) {
+        self.next();
+        let mut before = "[";
+        for number in numbers {
+            self.number(before, *number);
+            before = ",";
+        }
+        self.put(",");
+        self.name(name);
+        self.put("]");
+    }
+
+    /// Ends a table, if one was begun, and begins the next.
+    fn begin(&mut self, table: &str) {
+        self.put(table);
+        self.comma = "\n";
+    }
+
+    /// Puts what stands before the next row.
+    fn next(&mut self) {
+        self.put(self.comma);
+        self.comma = ",\n";
+    }
+}
+
+/// A step: its word, its names in Windows and in docs/RULES.md, and its keys.
+fn put_act(json: &mut Json, act: Act) {
+    json.next();
+    json.member("{", "word", act.word());
+    json.member(",", "windows", act.windows_name());
+    json.member(",", "rules", act.rules_name());
+    json.put(",\"keys\":");
+    let mut before = "[";
+    for key in keys_of(act) {
+        json.put(before);
+        json.name(key.word());
+        before = ",";
+    }
+    json.put("]}");
+}
+
+/// All steps.
+fn put_acts(json: &mut Json) {
+    for place in 0..=usize::MAX {
+        let Some(act) = Act::at(place) else {
+            return;
+        };
+        put_act(json, act);
+    }
+}
+
+/// Names, a row each.
+fn put_names(json: &mut Json, names: &[&'static str]) {
+    for name in names {
+        json.next();
+        json.name(name);
+    }
+}
+
+/// A refusal: its number, its name, when it comes, and its names in Windows by the words of calls.
+fn put_refusal(json: &mut Json, refusal: Refusal) {
+    json.next();
+    json.number("{\"number\":", refusal.number());
+    json.member(",", "name", refusal.name());
+    json.member(",", "meaning", refusal_meaning(refusal));
+    json.put(",\"windows\":{");
+    let mut before = "";
+    for call in &CALLS {
+        if let Some(name) = windows_name(*call, refusal) {
+            json.member(before, act_of(*call).word(), name);
+            before = ",";
+        }
+    }
+    json.put("}}");
+}
+
+/// All refusals.
+fn put_refusals(json: &mut Json) {
+    for refusal in Refusal::all() {
+        put_refusal(json, *refusal);
+    }
+}
+
+/// The statuses that have a name, each behind its number.
+fn put_statuses(json: &mut Json) {
+    for row in status_names() {
+        json.row(&[row.0], row.1);
+    }
+}
+
+/// The major function codes, each behind its number.
+fn put_majors(json: &mut Json) {
+    for major in 0..=LAST_MAJOR {
+        if let Some(name) = major_name(major) {
+            json.row(&[u32::from(major)], name);
+        }
+    }
+}
+
+/// The minor function codes of a major function code, each behind both numbers.
+fn put_minors_of(json: &mut Json, major: u8) {
+    for minor in 0..=u8::MAX {
+        if let Some(name) = minor_name(major, u64::from(minor)) {
+            json.row(&[u32::from(major), u32::from(minor)], name);
+        }
+    }
+}
+
+/// The minor function codes.
+fn put_minors(json: &mut Json) {
+    for major in 0..=LAST_MAJOR {
+        put_minors_of(json, major);
+    }
+}
+
+/// The text of all tables: an object with a list under each name.
+fn text_of_tables(alloc: Global) -> Result<String, AllocError> {
+    let mut json = Json {
+        text: String::new(alloc),
+        ran_out: false,
+        comma: "",
+    };
+    json.begin("{\"acts\":[");
+    put_acts(&mut json);
+    json.begin("],\n\"rules\":[");
+    put_names(&mut json, rule_names());
+    json.begin("],\n\"plans\":[");
+    put_names(&mut json, plan_names());
+    json.begin("],\n\"refusals\":[");
+    put_refusals(&mut json);
+    json.begin("],\n\"statuses\":[");
+    put_statuses(&mut json);
+    json.begin("],\n\"majors\":[");
+    put_majors(&mut json);
+    json.begin("],\n\"minors\":[");
+    put_minors(&mut json);
+    json.put("]}\n");
+    if json.ran_out {
+        return Err(AllocError);
+    }
+    Ok(json.text)
+}
+
+/// Prints the tables.
+pub fn tell_tables<O: Out>(alloc: Global, output: &mut O) -> Ending
+    ensures { PrintsWhole result (O.gone output.old) (O.gone output.new) }
+{
+    let Ok(text) = text_of_tables(alloc) else {
+        return Ending::NoMemory;
+    };
+    match put_all(output, text.as_bytes()) {
+        Ok(()) => Ending::Done,
+        Err(_) => Ending::Failed,
+    }
+}
