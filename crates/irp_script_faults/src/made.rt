@@ -109,10 +109,9 @@ fn of_answer(
     if is_unbound(run.standing(), told, step.act) {
         return Some(Concern::Unbound);
     }
-    match (step.act, answer) {
-        (StepAct::Call(call), Answered::Reply(reply)) => of_call(run, script, call, reply),
-        (act, Answered::Word(reply)) => not_held(act, step.seat, reply),
-        _ => None,
+    match answer {
+        Answered::Reply(reply) => of_call(run, script, step.act, reply),
+        Answered::Word(reply) => not_held(step.act, step.seat, reply),
     }
 }
 
@@ -150,27 +149,35 @@ fn not_held(act: StepAct, seat: u32, reply: WordReply) -> Option<Concern> {
 }
 
 /// What isn't meant in a call that was answered so, if anything.
-fn of_call(
+fn of_call(run: &Run, script: &ScriptParts, act: StepAct, reply: Reply) -> Option<Concern> {
+    let StepAct::Call(call) = act else {
+        return None;
+    };
+    match call {
+        Call::SetRoutine { setting, .. } => no_routine(script, setting),
+        Call::SetCancelRoutine { cancel, .. } => no_cancel(script, cancel?),
+        Call::Delete { .. } if reply == Reply::Refused(Refusal::StillAttached) => {
+            Some(Concern::Attached)
+        }
+        Call::CallDriver { party, target, .. } => of_send(run, script, act, party, target, reply),
+        _ => None,
+    }
+}
+
+/// What isn't meant in a send that was answered so, if anything.
+fn of_send(
     run: &Run,
     script: &ScriptParts,
-    call: Call<Named, u32>,
+    act: StepAct,
+    party: Party,
+    target: DeviceId,
     reply: Reply,
 ) -> Option<Concern> {
-    match (call, reply) {
-        (Call::SetRoutine { setting, .. }, _) => no_routine(script, setting),
-        (Call::SetCancelRoutine { cancel, .. }, _) => no_cancel(script, cancel?),
-        (Call::Delete { .. }, Reply::Refused(Refusal::StillAttached)) => Some(Concern::Attached),
-        (
-            Call::CallDriver {
-                party: Party::Originator,
-                target,
-                ..
-            },
-            Reply::Refused(_),
-        ) => too_short(run.standing(), StepAct::Call(call), target),
-        (Call::CallDriver { .. }, Reply::Status(_)) => {
-            no_lower(script, run.entries().last()?.asked.as_slice())
+    match reply {
+        Reply::Refused(_) if party == Party::Originator => {
+            too_short(run.standing(), act, target)
         }
+        Reply::Status(_) => no_lower(script, run.entries().last()?.asked.as_slice()),
         _ => None,
     }
 }
@@ -200,13 +207,13 @@ fn no_cancel(script: &ScriptParts, cancel: CancelId) -> Option<Concern> {
 
 /// A packet has fewer locations than the stack of a device has devices up to it.
 fn too_short(standing: &Standing, act: StepAct, target: DeviceId) -> Option<Concern> {
-    let manager = standing.manager();
-    let packet = &manager.live(packet_of(standing.labels(), act).slot)?.packet;
-    let stacks = manager.stacks();
-    if target.0 >= stacks.len() {
+    let irp = packet_of(standing.labels(), act);
+    let live = standing.manager().live(irp.slot)?;
+    let stacks = standing.manager().stacks();
+    if live.use_no != irp.use_no || target.0 >= stacks.len() {
         return None;
     }
-    let (size, devices) = (packet.size(), stacks.stack_size(target));
+    let (size, devices) = (live.packet.size(), stacks.stack_size(target));
     (size < devices).then_some(Concern::TooShort { size, devices })
 }
 
