@@ -63,21 +63,6 @@ fn watches(shown: Shown) -> Answer
     }
 }
 
-/// One driver, whose reads each device passes down with a completion routine of rule Watch, and the lowest finishes.
-fn store(alloc: Global) -> Result<Store, NotTimed> {
-    let reads = [(READ, DispatchId(0))].to_vec(alloc)?;
-    let watch = Routine::new(Rule::Watch, Box::new(alloc, watches)?);
-    let forward = Dispatch::new(KNOWN, Box::new(alloc, forwards)?);
-    let mut store = Store::new(alloc);
-    let has_watch = store.add(watch).is_ok();
-    let has_forward = store.add_dispatch(forward).is_ok();
-    let has_driver = store.add_driver(reads).is_ok();
-    if has_watch && has_forward && has_driver {
-        return Ok(store);
-    }
-    Err(NotTimed::Memory)
-}
-
 /// Does the work with this caller. Answers how long the batches took, without what came before each: the packets are
 /// made ready to be sent.
 fn timed<C: Caller, R: Clock>(
@@ -159,14 +144,14 @@ fn recorded<A: Ask + Send + Drop, L: Session + Send + Sync, R: Threads + Wait + 
     }
 }
 
-/// Does the work in a session of so many seats; where there are none, by the manager alone.
-pub fn do_work<R: Threads + Wait + Sync + Clock + AllocGlobal>(
+/// Does the work with this store in a session of so many seats; where there are none, by the manager alone.
+fn with_store<R: Threads + Wait + Sync + Clock>(
     rt: &R,
+    alloc: Global,
+    store: Store,
     seats: Option<u32>,
     work: Work,
 ) -> Result<Outcome, NotTimed> {
-    let alloc = rt.alloc();
-    let store = store(alloc)?;
     match seats {
         None => Ok((timed(rt, alloc, &mut Alone::new(alloc, store), work)?, None)),
         Some(seats) => {
@@ -174,6 +159,27 @@ pub fn do_work<R: Threads + Wait + Sync + Clock + AllocGlobal>(
             recorded::<Store, Brand, R>(rt, alloc, blank, store, seats, work)
         }
     }
+}
+
+/// Does the work in a session of so many seats; where there are none, by the manager alone. There is one driver, whose
+/// reads each device passes down with a completion routine of rule Watch, and the lowest finishes.
+pub fn do_work<R: Threads + Wait + Sync + Clock + AllocGlobal>(
+    rt: &R,
+    seats: Option<u32>,
+    work: Work,
+) -> Result<Outcome, NotTimed> {
+    let alloc = rt.alloc();
+    let reads = [(READ, DispatchId(0))].to_vec(alloc)?;
+    let watch = Routine::new(Rule::Watch, Box::new(alloc, watches)?);
+    let forward = Dispatch::new(KNOWN, Box::new(alloc, forwards)?);
+    let mut store = Store::new(alloc);
+    let has_watch = store.add(watch).is_ok();
+    let has_forward = store.add_dispatch(forward).is_ok();
+    let has_driver = store.add_driver(reads).is_ok();
+    if has_watch && has_forward && has_driver {
+        return with_store(rt, alloc, store, seats, work);
+    }
+    Err(NotTimed::Memory)
 }
 
 /// What is done in calls, for a number.
