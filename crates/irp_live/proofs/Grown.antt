@@ -1,5 +1,5 @@
 -- What the next line of a transcript adds: an entry, or a word line.
-use Rattle.std.proofs.Common.{◌≡◌, ℕ, ◌<◌, ◌==◌, nat_lt, List, [], ◌∷◌, ◌++◌, length, Option, Some, None, refl, sym, subst, ap, ◌∙◌, inl, inr, arith, ◌+◌, ◌≤◌, ◌^◌, length-append}
+use Rattle.std.proofs.Common.{◌≡◌, ◌<◌, ◌==◌, nat_lt, List, [], ◌∷◌, ◌++◌, length, Option, Some, None, refl, sym, subst, ap, ◌∙◌, inl, inr, arith, ◌+◌, ◌≤◌, ◌^◌, length-append}
 use Rattle.std.specs.Prelude.{◌⊎◌, slice_index_or}
 use Rattle.std.proofs.lemmas.List.{get_or_push}
 use Rattle.irp_judge.specs.Judging.{HasJudged, JudgeValue}
