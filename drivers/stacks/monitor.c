@@ -14,7 +14,7 @@ static NTSTATUS Write(PDEVICE_OBJECT DeviceObject, PIRP Irp)
 {
     PEXTENSION ext = DeviceObject->DeviceExtension;
     const LONG64 length = IoGetCurrentIrpStackLocation(Irp)->Parameters.Write.Length;
-    LONG64 most = ext->Most, was;
+    LONG64 most = InterlockedOr64(&ext->Most, 0), was;
     InterlockedExchangeAdd64(&ext->Bytes, length);
     InterlockedIncrement64(&ext->Writes);
     while (length > most && (was = InterlockedCompareExchange64(&ext->Most, length, most)) != most)
