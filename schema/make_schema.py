@@ -13,7 +13,10 @@ USAGE = ('usage: irp_words tables | make_schema.py writes script.schema.json bes
          'whether that and words.tmLanguage.json are of these tables')
 if sys.argv[1:] not in ([], ['--check']):
     sys.exit(USAGE)
-TABLES = json.load(sys.stdin)
+try:
+    TABLES = json.load(sys.stdin)
+except ValueError:
+    sys.exit('make_schema.py: standard input is no JSON; give it what bin/irp_words tables prints')
 U8, U32, U64 = 255, 4294967295, 18446744073709551615
 
 

@@ -1,6 +1,7 @@
 //! Opening an input. Source: this project's own rules.
 
-ghost use Rattle.std.specs.Prelude.{◌≡◌, ◌↔◌, IfErr, IfSome, IsOk, None};
+ghost use Rattle.std.specs.Prelude.{◌≡◌, ◌↔◌, IfErr, IfOk, IfSome, IsOk, None, is_none};
+ghost use Rattle.either.specs.Either.{is_left};
 ghost use Rattle.irp_program.specs.Opening.{IsUnopened};
 ghost use Rattle.irp_program.specs.declared.opening.NoOpen.TheVariants.{Missing, Denied};
 
@@ -82,6 +83,7 @@ fn no_file(alloc: Global, name: &str, kind: ErrorKind) -> Unopened
 pub fn open_input(rt: &HostRuntime, name: Option<&str>) -> Result<Either<Stdin, File>, Unopened>
     ensures file { IfErr result (λ told. IfSome name.entry (λ text. IsUnopened text.now told)) }
     ensures input { name.entry ≡ None → IsOk result }
+    ensures which { IfOk result (λ input. is_left input ≡ is_none name.entry) }
 {
     let Some(name) = name else {
         return Ok(Left(rt.stdin()));
