@@ -2,7 +2,7 @@
 
 ghost use Rattle.std.specs.Prelude.{◌≡◌, ◌++◌, OnOk, slice_get};
 ghost use Rattle.irp_view.specs.Parts.{answer_part, lock_text, part_text, refusal_told, value_text};
-ghost use Rattle.irp_view.specs.Questions.{answer_told, nobody_text, question_value, told_of, who_text};
+ghost use Rattle.irp_view.specs.Questions.{answer_lead, nobody_text, question_value, told_of, who_text};
 
 use crate::answers::put_answer;
 use crate::fields::{bool_text, field_name, field_place, put_field, put_number, shown_of};
@@ -31,20 +31,26 @@ pub fn put_part(words: &mut String, entry: &Entry, difference: Difference) -> Re
                 field_name(field),
                 field_place(field)
             ),
-            QuestionPart::Answer => put_answer_part(words, entry, at),
+            QuestionPart::Answer => put_answer_part(words, at, question_at(entry, at)),
         },
     }
 }
 
-/// Puts a question's answer, as a part of an entry. The one error is want of memory.
-fn put_answer_part(words: &mut String, entry: &Entry, at: usize) -> Result<(), AllocError>
-    ensures { OnOk result (words.new.bytes.items
-        ≡ words.old.bytes.items ++ answer_part at (slice_get entry.now.asked at)) }
+/// The question at this place of an entry, if there is one.
+pub fn question_at(entry: &Entry, at: usize) -> Option<Asked>
+    ensures { result ≡ slice_get entry.now.asked at }
 {
-    match entry.asked.as_slice().get(at) {
+    entry.asked.as_slice().get(at).copied()
+}
+
+/// Puts a question's answer, as a part of an entry. The one error is want of memory.
+fn put_answer_part(words: &mut String, at: usize, question: Option<Asked>) -> Result<(), AllocError>
+    ensures { OnOk result (words.new.bytes.items ≡ words.old.bytes.items ++ answer_part at question) }
+{
+    match question {
         Some(question) => {
             write!(words, "asked {}, answer of ", at)?;
-            put_who(words, *question)
+            put_who(words, question)
         }
         None => write!(words, "asked {}, answer", at),
     }
@@ -145,9 +151,9 @@ fn put_question(
     ensures { OnOk result (words.new.bytes.items
         ≡ words.old.bytes.items ++ question_value at part is_made (slice_get entry.now.asked at)) }
 {
-    match entry.asked.as_slice().get(at) {
+    match question_at(entry, at) {
         None => words.push_str(nobody_text(at)),
-        Some(question) => put_told(words, *question, part, is_made),
+        Some(question) => put_told(words, question, part, is_made),
     }
 }
 
@@ -162,7 +168,10 @@ fn put_told(
 {
     match part {
         QuestionPart::Shown(field) => put_field(words, field, shown_of(question)),
-        QuestionPart::Answer => put_answer_told(words, question, is_made),
+        QuestionPart::Answer => {
+            words.push_str(answer_lead(is_made))?;
+            put_answer(words, question)
+        }
         _ => {
             words.push_str("asks ")?;
             put_who(words, question)
@@ -181,12 +190,13 @@ fn nobody_text(at: usize) -> &'static str
     }
 }
 
-/// Puts an answer, and that others may be allowed where the manager made it. The one error is want of memory.
-fn put_answer_told(words: &mut String, question: Asked, is_made: bool) -> Result<(), AllocError>
-    ensures { OnOk result (words.new.bytes.items ≡ words.old.bytes.items ++ answer_told is_made question) }
+/// What stands before an answer: that others may be allowed, where the manager made it.
+fn answer_lead(is_made: bool) -> &'static str
+    ensures { result.now ≡ answer_lead is_made }
 {
     if is_made {
-        words.push_str("an answer that is allowed, such as: ")?;
+        "an answer that is allowed, such as: "
+    } else {
+        ""
     }
-    put_answer(words, question)
 }
