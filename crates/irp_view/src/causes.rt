@@ -1,6 +1,6 @@
 //! What a refusal comes from, in words.
 
-use crate::fields::put_device;
+use crate::fields::{put_device, put_numbered};
 use irp_judge::Cause;
 use irp_names::{CancelWords, OwnerWords, refusal_meaning, windows_name};
 use irp_types::{Call, DeviceId, Refusal, Reply};
@@ -41,23 +41,20 @@ fn meaning(call: Call, refusal: Refusal, cause: Cause) -> &'static str {
 fn put_state(words: &mut String, cause: Cause) -> Result<(), AllocError> {
     match cause {
         Cause::Nothing => Ok(()),
-        Cause::Use(number) => put_count(words, ": the slot's packet is in use ", number),
+        Cause::Use(number) => put_numbered(words, ": the slot's packet is in use ", number),
         Cause::Owner(owner) => write!(words, ": {}", OwnerWords(owner)),
-        Cause::Location { current, size } => {
-            write!(words, ": current location {}, size {}", current, size)
-        }
+        Cause::Location { current, size } => put_location(words, current, size),
         Cause::Room {
             current,
             size,
             needed,
-        } => write!(
-            words,
-            ": current location {}, size {}, needed below it {}",
-            current, size, needed
-        ),
+        } => {
+            put_location(words, current, size)?;
+            put_numbered(words, ", needed below it ", u64::from(needed))
+        }
         Cause::Lower(None) => words.push_str(": nothing stands below the sender"),
         Cause::Lower(Some(device)) => {
-            put_count(
+            put_numbered(
                 words,
                 ": just below the sender stands D",
                 u64::from(device.0),
@@ -65,22 +62,19 @@ fn put_state(words: &mut String, cause: Cause) -> Result<(), AllocError> {
         }
         Cause::CancelRoutine(id) => write!(words, ": {} is set", CancelWords(id)),
         Cause::Neighbours { lower, upper } => put_neighbours(words, lower, upper),
-        Cause::Devices(count) => put_count(words, ": devices created: ", u64::from(count)),
-        Cause::Stack(count) => put_count(words, ": devices in the stack: ", u64::from(count)),
-        Cause::Lock(lock) => put_count(words, ": remove lock ", u64::from(lock.0)),
+        Cause::Devices(count) => put_numbered(words, ": devices created: ", u64::from(count)),
+        Cause::Stack(count) => put_numbered(words, ": devices in the stack: ", u64::from(count)),
+        Cause::Lock(lock) => put_numbered(words, ": remove lock ", u64::from(lock.0)),
         Cause::Packets { live, next_use } => {
-            write!(
-                words,
-                ": live packets: {}, next use number {}",
-                live, next_use
-            )
+            put_numbered(words, ": live packets: ", live as u64)?;
+            put_numbered(words, ", next use number ", next_use)
         }
     }
 }
 
-/// Puts words and a number behind them. The one error is want of memory.
-fn put_count(words: &mut String, lead: &str, number: u64) -> Result<(), AllocError> {
-    write!(words, "{}{}", lead, number)
+/// Puts a packet's current location, and how many it has. The one error is want of memory.
+fn put_location(words: &mut String, current: u32, size: u32) -> Result<(), AllocError> {
+    write!(words, ": current location {}, size {}", current, size)
 }
 
 /// Puts the devices beside another. The one error is want of memory.

@@ -66,12 +66,19 @@ pub fn put_hex(words: &mut String, number: u64) -> Result<(), AllocError>
     write!(words, "0x{:x}", number)
 }
 
+/// Puts words and a number behind them. The one error is want of memory.
+pub fn put_numbered(words: &mut String, lead: &str, number: u64) -> Result<(), AllocError>
+    ensures { OnOk result (words.new.bytes.items ≡ words.old.bytes.items ++ (lead.now ++ decimal number)) }
+{
+    write!(words, "{}{}", lead, number)
+}
+
 /// Puts a device, or that there is none. The one error is want of memory.
 pub fn put_device(words: &mut String, device: Option<DeviceId>) -> Result<(), AllocError>
     ensures { OnOk result (words.new.bytes.items ≡ words.old.bytes.items ++ device_shown device) }
 {
     match device {
-        Some(device) => write!(words, "D{}", device.0),
+        Some(device) => put_numbered(words, "D", u64::from(device.0)),
         None => words.push_str("none"),
     }
 }

@@ -5,7 +5,9 @@ ghost use Rattle.irp_view.specs.Parts.{answer_part, lock_text, part_text, refusa
 ghost use Rattle.irp_view.specs.Questions.{answer_lead, nobody_text, question_value, told_of, who_text};
 
 use crate::answers::put_answer;
-use crate::fields::{bool_text, field_name, field_place, put_field, put_number, shown_of};
+use crate::fields::{
+    bool_text, field_name, field_place, put_field, put_number, put_numbered, shown_of,
+};
 use irp_judge::{Difference, QuestionPart};
 use irp_names::{DeviceWords, ReplyWords, RoutineWords};
 use irp_types::{Asked, Call, Entry, LockNo, Reply};
@@ -22,7 +24,7 @@ pub fn put_part(words: &mut String, entry: &Entry, difference: Difference) -> Re
         Difference::Refusal | Difference::Reply => words.push_str("reply"),
         Difference::Question { at, part } => match part {
             QuestionPart::TooMany | QuestionPart::TooFew | QuestionPart::Closure => {
-                write!(words, "asked {}", at)
+                put_numbered(words, "asked ", at as u64)
             }
             QuestionPart::Shown(field) => write!(
                 words,
