@@ -4,7 +4,7 @@ use crate::act::keys_of;
 use crate::condition::ANSWERS;
 use crate::names::{Kind, Names};
 use crate::wanted::Wanted;
-use irp_names::{Act, major_name, minor_at, plan_names, rule_names, status_names};
+use irp_names::{Act, PlanKind, major_name, minor_at, rule_names, status_names};
 use std::alloc::{AllocError, Global};
 use strsim::levenshtein;
 
@@ -30,7 +30,7 @@ fn words_at(wanted: Wanted) -> (&'static [&'static str], bool) {
         Wanted::Routine => (rule_names(), false),
         Wanted::Behaviour => (&["continue", "keep", "replace"], false),
         Wanted::CancelAnswer => (&["finish", "leave"], true),
-        Wanted::Plan => (plan_names(), true),
+        Wanted::Plan => (&[], true),
         Wanted::Party => (&["originator"], false),
         Wanted::Cancel => (&["none"], false),
         Wanted::Act => (&["seat", "stack", "if"], true),
@@ -53,7 +53,7 @@ fn kind_at(wanted: Wanted) -> Option<Kind> {
 }
 
 /// The name with this number, from 0, of those that may stand where this was expected: of a status, of a function code,
-/// of a step or of a key.
+/// of a step, of a plan or of a key.
 fn name_at(wanted: Wanted, number: u8) -> Option<&'static str> {
     let place = usize::from(number);
     match wanted {
@@ -61,6 +61,7 @@ fn name_at(wanted: Wanted, number: u8) -> Option<&'static str> {
         Wanted::Major => major_name(number),
         Wanted::Minor => minor_at(place),
         Wanted::Act => Some(Act::at(place)?.word()),
+        Wanted::Plan => Some(PlanKind::at(place)?.word()),
         Wanted::Answer => answer_at(place),
         Wanted::Key(act) => Some(keys_of(act).get(place)?.word()),
         _ => None,

@@ -7,7 +7,10 @@ use Rattle.irp_types.specs.Calls.{Call}
 use Rattle.irp_types.specs.declared.call.Call.TheVariants as call
 use Rattle.irp_names.specs.declared.step_names.Act.{Act}
 use Rattle.irp_names.specs.declared.step_names.Act.TheVariants as act
-use Rattle.irp_names.specs.declared.step_names.TheConstants.{ACTS}
+use Rattle.irp_names.specs.declared.step_names.StepPlace.{StepPlace}
+use Rattle.irp_names.specs.declared.step_names.StepPlace.TheVariants as place
+use Rattle.irp_names.specs.declared.step_names.TheConstants.{ACTS, KEYS}
+use Rattle.irp_names.specs.declared.parts.Part.{Part}
 
 -- what the first row with this word has
 abbrev pub under : List ℕ → List (List ℕ × Act) → Option Act
@@ -29,6 +32,13 @@ checks = map (λ form. form.4.now) ACTS
 
 unfoldable pub answers : List (List ℕ)
 answers = map (λ form. form.5.now) ACTS
+
+-- where a script may have each step; the keys of each there, with what stands under each
+unfoldable pub step_places : List StepPlace
+step_places = map (λ row. row.0) KEYS
+
+unfoldable pub step_keys : List (List (List ℕ × Part))
+step_keys = map (λ row. map (λ key. (key.0.now, key.1)) row.1.now) KEYS
 
 -- the place of a step's row
 abbrev pub act_place : Act → ℕ
@@ -75,6 +85,13 @@ checks_of one = get_or checks (act_place one) []
 
 unfoldable pub answer_of : Act → List ℕ
 answer_of one = get_or answers (act_place one) []
+
+-- where a script may have it, and its keys there
+unfoldable pub place_of : Act → StepPlace
+place_of one = get_or step_places (act_place one) place.Anywhere
+
+unfoldable pub keys_of : Act → List (List ℕ × Part)
+keys_of one = get_or step_keys (act_place one) []
 
 -- what stands at a place of these rows, and the step at a place
 abbrev pub placed : ℕ → List (List ℕ × Act) → Option Act

@@ -7,7 +7,7 @@ use crate::ending::Ending;
 use irp_forms::HasName;
 use irp_grammar::keys_of;
 use irp_names::{
-    Act, act_of, major_name, minor_name, plan_names, refusal_meaning, rule_names, status_names,
+    Act, PlanKind, act_of, major_name, minor_name, refusal_meaning, rule_names, status_names,
     windows_name,
 };
 use irp_streams::{Out, put_all};
@@ -146,6 +146,17 @@ fn put_names(json: &mut Json, names: &[&'static str]) {
     }
 }
 
+/// The kinds of plans.
+fn put_plans(json: &mut Json) {
+    for place in 0..=usize::MAX {
+        let Some(kind) = PlanKind::at(place) else {
+            return;
+        };
+        json.next();
+        json.name(kind.word());
+    }
+}
+
 /// A refusal: its number, its name, when it comes, and its names in Windows by the words of calls.
 fn put_refusal(json: &mut Json, refusal: Refusal) {
     json.next();
@@ -214,7 +225,7 @@ fn text_of_tables(alloc: Global) -> Result<String, AllocError> {
     json.begin("],\n\"rules\":[");
     put_names(&mut json, rule_names());
     json.begin("],\n\"plans\":[");
-    put_names(&mut json, plan_names());
+    put_plans(&mut json);
     json.begin("],\n\"refusals\":[");
     put_refusals(&mut json);
     json.begin("],\n\"statuses\":[");
