@@ -1,10 +1,8 @@
--- Steps by their words, and the calls that they make.
+-- Steps by their words.
 use Rattle.std.specs.Prelude.{ℕ, get_or, List, [], map, Option}
 use Rattle.std.specs.List.{find, slice_get}
 use Rattle.std.specs.Option.{option_map}
 use Rattle.std.proofs.Common.{bytes_eq}
-use Rattle.irp_types.specs.Calls.{Call}
-use Rattle.irp_types.specs.declared.call.Call.TheVariants as call
 use Rattle.irp_names.specs.declared.step_names.Act.{Act}
 use Rattle.irp_names.specs.declared.step_names.Act.TheVariants as act
 use Rattle.irp_names.specs.declared.step_names.StepPlace.{StepPlace}
@@ -103,24 +101,3 @@ act_at place = placed place act_rows
 -- the step that a word names
 unfoldable pub act_named : List ℕ → Option Act
 act_named word = under word act_rows
-
--- the step that makes a call
-abbrev pub act_of : Call → Act
-act_of (call.CreateDevice driver lock) = act.CreateDevice
-act_of (call.Attach device to) = act.Attach
-act_of (call.Detach lower) = act.Detach
-act_of (call.Delete device) = act.Delete
-act_of (call.Allocate size) = act.Allocate
-act_of (call.Free irp) = act.Free
-act_of (call.Cancel irp) = act.Cancel
-act_of (call.Look irp) = act.Look
-act_of (call.Reuse irp status) = act.Reuse
-act_of (call.SetNext party irp major word) = act.SetNext
-act_of (call.CopyToNext party irp) = act.CopyToNext
-act_of (call.Skip party irp) = act.Skip
-act_of (call.MarkPending party irp) = act.MarkPending
-act_of (call.SetRoutine party irp setting) = act.SetRoutine
-act_of (call.CallDriver party irp target) = act.CallDriver
-act_of (call.Complete party irp status information) = act.Complete
-act_of (call.SetCancelRoutine party irp cancel) = act.SetCancelRoutine
-act_of (call.FinishTaken irp token status information) = act.FinishTaken

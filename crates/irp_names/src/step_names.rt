@@ -2,6 +2,7 @@
 //! project's own format (docs/FORMATS.md); for the names in Windows the WDK, by the title of each routine's page.
 
 ghost use Rattle.std.specs.Prelude.{◌≡◌, ◌<◌, ℕ, List, [], Some, get_or, length, map};
+ghost use Rattle.irp_names.specs.Calls.{act_of};
 ghost use Rattle.irp_names.specs.Steps as spec;
 
 use crate::parts::Part;
@@ -333,7 +334,7 @@ impl Act {
 
 /// The step that makes this call.
 pub fn act_of(call: Call) -> Act
-    ensures { result ≡ spec.act_of call }
+    ensures { result ≡ act_of call }
 {
     match call {
         Call::CreateDevice { .. } => Act::CreateDevice,

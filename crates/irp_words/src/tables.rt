@@ -7,43 +7,20 @@ use crate::ending::Ending;
 use irp_forms::HasName;
 use irp_grammar::keys_of;
 use irp_names::{
-    Act, PlanKind, act_of, major_name, minor_name, refusal_meaning, rule_names, status_names,
-    windows_name,
+    Act, PlanKind, major_name, minor_name, mistake_name, refusal_meaning, rule_names, status_names,
 };
 use irp_streams::{Out, put_all};
+use irp_types::Refusal;
 use irp_types::limits::LAST_MAJOR;
-use irp_types::{Call, DeviceId, IrpRef, Party, Refusal, Status};
 use std::alloc::{AllocError, Global};
 
-/// The packet of the calls below.
-const IRP: IrpRef = IrpRef { slot: 0, use_no: 1 };
-
-/// A call of each kind for which a refusal may have a name in Windows.
-static CALLS: [Call; 5] = [
-    Call::Delete {
-        device: DeviceId(0),
-    },
-    Call::Reuse {
-        irp: IRP,
-        status: Status::SUCCESS,
-    },
-    Call::CallDriver {
-        party: Party::Originator,
-        irp: IRP,
-        target: DeviceId(0),
-    },
-    Call::Complete {
-        party: Party::Originator,
-        irp: IRP,
-        status: Status::SUCCESS,
-        information: 0,
-    },
-    Call::FinishTaken {
-        irp: IRP,
-        token: 1,
-        status: Status::SUCCESS,
-        information: 0,
-    },
+/// The steps for whose calls a refusal may have a name in Windows.
+static REFUSED: [Act; 5] = [
+    Act::Delete,
+    Act::Reuse,
+    Act::CallDriver,
+    Act::Complete,
+    Act::FinishTaken,
 ];
 
 /// A text of JSON that is made.
@@ -165,9 +142,9 @@ fn put_refusal(json: &mut Json, refusal: Refusal) {
     json.member(",", "meaning", refusal_meaning(refusal));
     json.put(",\"windows\":{");
     let mut before = "";
-    for call in &CALLS {
-        if let Some(name) = windows_name(*call, refusal) {
-            json.member(before, act_of(*call).word(), name);
+    for act in &REFUSED {
+        if let Some(name) = mistake_name(*act, refusal) {
+            json.member(before, act.word(), name);
             before = ",";
         }
     }
