@@ -5,7 +5,6 @@ ghost use Rattle.irp_words.specs.Telling.{PrintsWhole};
 
 use crate::ending::Ending;
 use irp_forms::HasName;
-use irp_grammar::keys_of;
 use irp_names::{
     Act, PlanKind, major_name, minor_name, mistake_name, refusal_meaning, rule_names, status_names,
 };
@@ -97,9 +96,9 @@ fn put_act(json: &mut Json, act: Act) {
     json.member(",", "rules", act.rules_name());
     json.put(",\"keys\":");
     let mut before = "[";
-    for key in keys_of(act) {
+    for key in act.keys() {
         json.put(before);
-        json.name(key.word());
+        json.name(key.0);
         before = ",";
     }
     json.put("]}");
