@@ -150,22 +150,10 @@ pub enum Shape {
 /// A key of an object, and what stands under it.
 pub type Key = (&'static str, Part);
 
-/// Which scripts and transcripts may have a step, and where.
-#[derive(Clone, Copy, PartialEq, Eq)]
-pub enum Place {
-    /// Any of them, in `setup` too.
-    Anywhere,
-    /// Any of them, in `steps` alone: it is on a remove lock.
-    Steps,
-    /// One of form 2 or 3, in `steps` alone.
-    FormTwo,
-}
-
-/// A step, where it may stand, and its keys in a part of such a kind. It has none where it can't be such a part.
+/// A step, and its keys in a part of such a kind. It has none where it can't be such a part.
 #[derive(Clone, Copy)]
 pub struct Deed {
     pub act: Act,
-    pub place: Place,
     pub keys: &'static [Key],
 }
 
