@@ -83,9 +83,12 @@ answer_text (asked.Completion id shown answer) = completion_text answer
 answer_text (asked.Cancel id shown answer) = cancel_answer_text answer
 
 -- of the manager's own entry it is told that others may be allowed too
+abbrev pub answer_lead : Bool → List ℕ
+answer_lead false = []
+answer_lead true = codes "an answer that is allowed, such as: "
+
 abbrev pub answer_told : Bool → Asked → List ℕ
-answer_told false question = answer_text question
-answer_told true question = codes "an answer that is allowed, such as: " ++ answer_text question
+answer_told is_made question = answer_lead is_made ++ answer_text question
 
 -- ---- what differs
 

@@ -1,55 +1,45 @@
 //! What closures answered, and which rule an answer breaks (docs/RULES.md, Rules of closures).
 
-ghost use Rattle.std.specs.Prelude.{◌≡◌, Some};
+ghost use Rattle.std.specs.Prelude.{◌≡◌, ◌++◌, OnOk};
 ghost use Rattle.irp_view.specs.Questions.{answer_text, completion_text, keep_text, mark_text};
 
 use irp_names::{PlanWords, ResultWords};
 use irp_transcript::Header;
 use irp_types::{Answer, Asked, CancelAnswer, CancelId, CancelRule, Plan, RoutineId, Rule, Shown};
-use std::fmt;
+use std::alloc::AllocError;
 
-/// An answer by its parts.
-#[derive(Clone, Copy)]
-pub struct AnswerParts(pub Asked);
-
-impl fmt::Display for AnswerParts {
-    ghost output = { λ parts. Some (answer_text parts.0) };
-
-    fn fmt<W: fmt::Write>(&self, f: &mut fmt::Formatter<W>) -> fmt::Result {
-        match self.0 {
-            Asked::Dispatch { plan, .. } => write!(f, "{}", PlanWords(plan)),
-            Asked::Completion { answer, .. } => write!(f, "{}", CompletionParts(answer)),
-            Asked::Cancel { answer, .. } => match answer {
-                CancelAnswer::Finish { information } => {
-                    write!(f, "finish, information 0x{:x}", information)
-                }
-                CancelAnswer::Leave => f.write_str("leave"),
-            },
-        }
+/// Puts an answer by its parts. The one error is want of memory.
+pub fn put_answer(words: &mut String, question: Asked) -> Result<(), AllocError>
+    ensures { OnOk result (words.new.bytes.items ≡ words.old.bytes.items ++ answer_text question) }
+{
+    match question {
+        Asked::Dispatch { plan, .. } => write!(words, "{}", PlanWords(plan)),
+        Asked::Completion { answer, .. } => put_completion(words, answer),
+        Asked::Cancel { answer, .. } => match answer {
+            CancelAnswer::Finish { information } => {
+                write!(words, "finish, information 0x{:x}", information)
+            }
+            CancelAnswer::Leave => words.push_str("leave"),
+        },
     }
 }
 
-/// A completion routine's answer by its parts.
-#[derive(Clone, Copy)]
-struct CompletionParts(Answer);
-
-impl fmt::Display for CompletionParts {
-    ghost output = { λ parts. Some (completion_text parts.0) };
-
-    fn fmt<W: fmt::Write>(&self, f: &mut fmt::Formatter<W>) -> fmt::Result {
-        let Answer {
-            keep,
-            mark,
-            replacement,
-        } = self.0;
-        let (kept, marked) = (keep_text(keep), mark_text(mark));
-        match replacement {
-            Some(put) => {
-                let result = ResultWords(put.status, put.information);
-                write!(f, "{}{}, sets {}", kept, marked, result)
-            }
-            None => write!(f, "{}{}", kept, marked),
+/// Puts a completion routine's answer by its parts. The one error is want of memory.
+fn put_completion(words: &mut String, answer: Answer) -> Result<(), AllocError>
+    ensures { OnOk result (words.new.bytes.items ≡ words.old.bytes.items ++ completion_text answer) }
+{
+    let Answer {
+        keep,
+        mark,
+        replacement,
+    } = answer;
+    let (kept, marked) = (keep_text(keep), mark_text(mark));
+    match replacement {
+        Some(put) => {
+            let result = ResultWords(put.status, put.information);
+            write!(words, "{}{}, sets {}", kept, marked, result)
         }
+        None => write!(words, "{}{}", kept, marked),
     }
 }
 

@@ -1,31 +1,27 @@
 //! What a refusal comes from, in words.
 
+use crate::fields::{put_device, put_numbered};
 use irp_judge::Cause;
 use irp_names::{CancelWords, OwnerWords, refusal_meaning, windows_name};
 use irp_types::{Call, DeviceId, Refusal, Reply};
-use std::fmt;
+use std::alloc::AllocError;
 
-/// Why the manager refuses a call: when the refusal comes, what of the state it comes from, and its name in Windows.
-#[derive(Clone, Copy)]
-pub struct CauseWords {
-    pub call: Call,
-    pub reply: Reply,
-    pub cause: Cause,
-}
-
-impl fmt::Display for CauseWords {
-    fn fmt<W: fmt::Write>(&self, f: &mut fmt::Formatter<W>) -> fmt::Result {
-        let CauseWords { call, reply, cause } = *self;
-        match reply {
-            Reply::Refused(refusal) => write!(
-                f,
-                "{}{}{}",
-                meaning(call, refusal, cause),
-                StateWords(cause),
-                WindowsWords(call, refusal)
-            ),
-            _ => Ok(()),
-        }
+/// Puts why the manager refuses a call: when the refusal comes, what of the state it comes from, and its name in
+/// Windows; nothing where this isn't a refusal. The one error is want of memory.
+pub fn put_reason(
+    words: &mut String,
+    call: Call,
+    reply: Reply,
+    cause: Cause,
+) -> Result<(), AllocError> {
+    let Reply::Refused(refusal) = reply else {
+        return Ok(());
+    };
+    words.push_str(meaning(call, refusal, cause))?;
+    put_state(words, cause)?;
+    match windows_name(call, refusal) {
+        Some(name) => write!(words, " (in Windows: {})", name),
+        None => Ok(()),
     }
 }
 
@@ -40,71 +36,55 @@ fn meaning(call: Call, refusal: Refusal, cause: Cause) -> &'static str {
     }
 }
 
-/// A refusal's name in Windows, where it has one.
-#[derive(Clone, Copy)]
-struct WindowsWords(Call, Refusal);
-
-impl fmt::Display for WindowsWords {
-    fn fmt<W: fmt::Write>(&self, f: &mut fmt::Formatter<W>) -> fmt::Result {
-        match windows_name(self.0, self.1) {
-            Some(name) => write!(f, " (in Windows: {})", name),
-            None => Ok(()),
+/// Puts what of the manager's state a refusal comes from, behind a colon; nothing where it comes from the call alone.
+/// The one error is want of memory.
+fn put_state(words: &mut String, cause: Cause) -> Result<(), AllocError> {
+    match cause {
+        Cause::Nothing => Ok(()),
+        Cause::Use(number) => put_numbered(words, ": the slot's packet is in use ", number),
+        Cause::Owner(owner) => write!(words, ": {}", OwnerWords(owner)),
+        Cause::Location { current, size } => put_location(words, current, size),
+        Cause::Room {
+            current,
+            size,
+            needed,
+        } => {
+            put_location(words, current, size)?;
+            put_numbered(words, ", needed below it ", u64::from(needed))
+        }
+        Cause::Lower(None) => words.push_str(": nothing stands below the sender"),
+        Cause::Lower(Some(device)) => {
+            put_numbered(
+                words,
+                ": just below the sender stands D",
+                u64::from(device.0),
+            )
+        }
+        Cause::CancelRoutine(id) => write!(words, ": {} is set", CancelWords(id)),
+        Cause::Neighbours { lower, upper } => put_neighbours(words, lower, upper),
+        Cause::Devices(count) => put_numbered(words, ": devices created: ", u64::from(count)),
+        Cause::Stack(count) => put_numbered(words, ": devices in the stack: ", u64::from(count)),
+        Cause::Lock(lock) => put_numbered(words, ": remove lock ", u64::from(lock.0)),
+        Cause::Packets { live, next_use } => {
+            put_numbered(words, ": live packets: ", live as u64)?;
+            put_numbered(words, ", next use number ", next_use)
         }
     }
 }
 
-/// What of the manager's state a refusal comes from, behind a colon; nothing where it comes from the call alone.
-#[derive(Clone, Copy)]
-struct StateWords(Cause);
-
-impl fmt::Display for StateWords {
-    fn fmt<W: fmt::Write>(&self, f: &mut fmt::Formatter<W>) -> fmt::Result {
-        match self.0 {
-            Cause::Nothing => Ok(()),
-            Cause::Use(number) => write!(f, ": the slot's packet is in use {}", number),
-            Cause::Owner(owner) => write!(f, ": {}", OwnerWords(owner)),
-            Cause::Location { current, size } => {
-                write!(f, ": current location {}, size {}", current, size)
-            }
-            Cause::Room {
-                current,
-                size,
-                needed,
-            } => write!(
-                f,
-                ": current location {}, size {}, needed below it {}",
-                current, size, needed
-            ),
-            Cause::Lower(None) => f.write_str(": nothing stands below the sender"),
-            Cause::Lower(Some(device)) => {
-                write!(f, ": just below the sender stands D{}", device.0)
-            }
-            Cause::CancelRoutine(id) => write!(f, ": {} is set", CancelWords(id)),
-            Cause::Neighbours { lower, upper } => write!(
-                f,
-                ": below it {}, above it {}",
-                Neighbour(lower),
-                Neighbour(upper)
-            ),
-            Cause::Devices(count) => write!(f, ": devices created: {}", count),
-            Cause::Stack(count) => write!(f, ": devices in the stack: {}", count),
-            Cause::Lock(lock) => write!(f, ": remove lock {}", lock.0),
-            Cause::Packets { live, next_use } => {
-                write!(f, ": live packets: {}, next use number {}", live, next_use)
-            }
-        }
-    }
+/// Puts a packet's current location, and how many it has. The one error is want of memory.
+fn put_location(words: &mut String, current: u32, size: u32) -> Result<(), AllocError> {
+    write!(words, ": current location {}, size {}", current, size)
 }
 
-/// A device beside another, or none.
-#[derive(Clone, Copy)]
-struct Neighbour(Option<DeviceId>);
-
-impl fmt::Display for Neighbour {
-    fn fmt<W: fmt::Write>(&self, f: &mut fmt::Formatter<W>) -> fmt::Result {
-        match self.0 {
-            Some(device) => write!(f, "D{}", device.0),
-            None => f.write_str("none"),
-        }
-    }
+/// Puts the devices beside another. The one error is want of memory.
+fn put_neighbours(
+    words: &mut String,
+    lower: Option<DeviceId>,
+    upper: Option<DeviceId>,
+) -> Result<(), AllocError> {
+    words.push_str(": below it ")?;
+    put_device(words, lower)?;
+    words.push_str(", above it ")?;
+    put_device(words, upper)
 }

@@ -1,7 +1,7 @@
 //! How the program ends.
 
 ghost use Rattle.std.specs.Prelude.{◌≡◌};
-ghost use Rattle.irp_view.specs.Ending.{has_line, of_unopened, of_unread, of_unshown, of_unwritten, of_verdict, of_words, status_of};
+ghost use Rattle.irp_view.specs.Ending.{has_line, of_unopened, of_unread, of_unshown, of_unwritten, of_verdict, of_words, plain_line, status_of};
 
 use crate::listing::Unshown;
 use crate::reading::Unread;
@@ -61,19 +61,28 @@ impl fmt::Display for Ending {
 
     fn fmt<W: fmt::Write>(&self, f: &mut fmt::Formatter<W>) -> fmt::Result {
         match self {
-            Ending::Done | Ending::Wrong => Ok(()),
             Ending::Refused { line, expected } => {
                 write!(f, "irp_view: transcript refused: line {line}{expected}")
             }
-            Ending::NoMemory => f.write_str("irp_view: out of memory"),
-            Ending::OtherWords => f.write_str(
-                "irp_view: usage: irp_view why, text, page or packet SLOT USE, then [FILE]; see irp_view --help",
-            ),
             Ending::NoFile { name, reason } => {
                 write!(f, "irp_view: {name}: can't be opened: {reason}")
             }
-            Ending::Failed => f.write_str("irp_view: input or output failed"),
+            other => f.write_str(plain_line(other)),
         }
+    }
+}
+
+/// The line, where it tells of no part of the ending.
+fn plain_line(ending: &Ending) -> &'static str
+    ensures { result.now ≡ plain_line ending.now }
+{
+    match ending {
+        Ending::NoMemory => "irp_view: out of memory",
+        Ending::OtherWords => {
+            "irp_view: usage: irp_view why, text, page or packet SLOT USE, then [FILE]; see irp_view --help"
+        }
+        Ending::Failed => "irp_view: input or output failed",
+        Ending::Done | Ending::Refused { .. } | Ending::Wrong | Ending::NoFile { .. } => "",
     }
 }
 

@@ -1,6 +1,8 @@
 //! What closures are shown, field by field (docs/RULES.md, What each closure is shown).
 
-ghost use Rattle.std.specs.Prelude.{◌≡◌, ◌+◌, Some};
+ghost use Rattle.std.specs.Prelude.{◌≡◌, ◌+◌, ◌++◌, OnOk};
+ghost use Rattle.std.specs.Fmt.{decimal};
+ghost use Rattle.irp_names.specs.Small.{hex_text};
 ghost use Rattle.irp_judge.specs.Differences.{place_of, shown_of};
 ghost use Rattle.irp_view.specs.Parts.{field_name};
 ghost use Rattle.irp_view.specs.Questions.{bool_text, device_shown, field_text};
@@ -8,7 +10,7 @@ ghost use Rattle.irp_view.specs.Questions.{bool_text, device_shown, field_text};
 use irp_judge::ShownField;
 use irp_names::{MajorWords, StatusWords};
 use irp_types::{Asked, DeviceId, Shown};
-use std::fmt;
+use std::alloc::AllocError;
 
 /// The name of a field.
 pub fn field_name(field: ShownField) -> &'static str
@@ -50,47 +52,54 @@ pub fn field_place(field: ShownField) -> u32
     }
 }
 
-/// What was shown in a field.
-#[derive(Clone, Copy)]
-pub struct FieldWords {
-    pub field: ShownField,
-    pub question: Asked,
+/// Puts a number in decimal. The one error is want of memory.
+pub fn put_number(words: &mut String, number: u64) -> Result<(), AllocError>
+    ensures { OnOk result (words.new.bytes.items ≡ words.old.bytes.items ++ decimal number) }
+{
+    write!(words, "{}", number)
 }
 
-impl fmt::Display for FieldWords {
-    ghost output = { λ words. Some (field_text words.field (shown_of words.question)) };
+/// Puts a number in hexadecimal. The one error is want of memory.
+pub fn put_hex(words: &mut String, number: u64) -> Result<(), AllocError>
+    ensures { OnOk result (words.new.bytes.items ≡ words.old.bytes.items ++ hex_text number) }
+{
+    write!(words, "0x{:x}", number)
+}
 
-    fn fmt<W: fmt::Write>(&self, f: &mut fmt::Formatter<W>) -> fmt::Result {
-        let shown = shown_of(self.question);
-        match self.field {
-            ShownField::Device => write!(f, "{}", ShownDevice(shown.device)),
-            ShownField::Slot => write!(f, "{}", shown.irp.slot),
-            ShownField::Use => write!(f, "{}", shown.irp.use_no),
-            ShownField::Major => write!(f, "{}", MajorWords(shown.major)),
-            ShownField::Location => write!(f, "{}", shown.location),
-            ShownField::Word => write!(f, "0x{:x}", shown.word),
-            ShownField::Status => write!(f, "{}", StatusWords(shown.status)),
-            ShownField::Information => write!(f, "0x{:x}", shown.information),
-            ShownField::PendingReturned => f.write_str(bool_text(shown.pending_returned)),
-            ShownField::Cancel => f.write_str(bool_text(shown.cancel)),
-            ShownField::Context => write!(f, "0x{:x}", shown.context),
-            ShownField::HasLower => f.write_str(bool_text(shown.has_lower)),
-        }
+/// Puts words and a number behind them. The one error is want of memory.
+pub fn put_numbered(words: &mut String, lead: &str, number: u64) -> Result<(), AllocError>
+    ensures { OnOk result (words.new.bytes.items ≡ words.old.bytes.items ++ (lead.now ++ decimal number)) }
+{
+    write!(words, "{}{}", lead, number)
+}
+
+/// Puts a device, or that there is none. The one error is want of memory.
+pub fn put_device(words: &mut String, device: Option<DeviceId>) -> Result<(), AllocError>
+    ensures { OnOk result (words.new.bytes.items ≡ words.old.bytes.items ++ device_shown device) }
+{
+    match device {
+        Some(device) => put_numbered(words, "D", u64::from(device.0)),
+        None => words.push_str("none"),
     }
 }
 
-/// The device that was shown, or none.
-#[derive(Clone, Copy)]
-struct ShownDevice(Option<DeviceId>);
-
-impl fmt::Display for ShownDevice {
-    ghost output = { λ words. Some (device_shown words.0) };
-
-    fn fmt<W: fmt::Write>(&self, f: &mut fmt::Formatter<W>) -> fmt::Result {
-        match self.0 {
-            Some(device) => write!(f, "D{}", device.0),
-            None => f.write_str("none"),
-        }
+/// Puts what was shown in a field. The one error is want of memory.
+pub fn put_field(words: &mut String, field: ShownField, shown: Shown) -> Result<(), AllocError>
+    ensures { OnOk result (words.new.bytes.items ≡ words.old.bytes.items ++ field_text field shown) }
+{
+    match field {
+        ShownField::Device => put_device(words, shown.device),
+        ShownField::Slot => put_number(words, shown.irp.slot as u64),
+        ShownField::Use => put_number(words, shown.irp.use_no),
+        ShownField::Major => write!(words, "{}", MajorWords(shown.major)),
+        ShownField::Location => put_number(words, u64::from(shown.location)),
+        ShownField::Word => put_hex(words, shown.word),
+        ShownField::Status => write!(words, "{}", StatusWords(shown.status)),
+        ShownField::Information => put_hex(words, shown.information),
+        ShownField::PendingReturned => words.push_str(bool_text(shown.pending_returned)),
+        ShownField::Cancel => words.push_str(bool_text(shown.cancel)),
+        ShownField::Context => put_hex(words, shown.context),
+        ShownField::HasLower => words.push_str(bool_text(shown.has_lower)),
     }
 }
 
@@ -157,20 +166,16 @@ fn shown_to_cancel(field: ShownField) -> &'static str {
     }
 }
 
-/// The rule of a field, for the closure that a question is put to.
-#[derive(Clone, Copy)]
-pub struct FieldRule {
-    pub field: ShownField,
-    pub question: Asked,
-}
-
-impl fmt::Display for FieldRule {
-    fn fmt<W: fmt::Write>(&self, f: &mut fmt::Formatter<W>) -> fmt::Result {
-        let (kind, rule) = match self.question {
-            Asked::Dispatch { .. } => ("a dispatch", shown_to_dispatch(self.field)),
-            Asked::Completion { .. } => ("a completion routine", shown_to_completion(self.field)),
-            Asked::Cancel { .. } => ("a cancel routine", shown_to_cancel(self.field)),
-        };
-        write!(f, "{} of {}: {}", field_name(self.field), kind, rule)
-    }
+/// Puts the rule of a field, for the closure that a question is put to. The one error is want of memory.
+pub fn put_field_rule(
+    words: &mut String,
+    field: ShownField,
+    question: Asked,
+) -> Result<(), AllocError> {
+    let (kind, rule) = match question {
+        Asked::Dispatch { .. } => ("a dispatch", shown_to_dispatch(field)),
+        Asked::Completion { .. } => ("a completion routine", shown_to_completion(field)),
+        Asked::Cancel { .. } => ("a cancel routine", shown_to_cancel(field)),
+    };
+    write!(words, "{} of {}: {}", field_name(field), kind, rule)
 }

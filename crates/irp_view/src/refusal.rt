@@ -100,9 +100,17 @@ fn bounds_of(header: &Header) -> Bounds {
     }
 }
 
-/// What was expected of this line, which has this value, behind these lines.
-fn expected_behind(alloc: Global, before: Before, line: &[u8], value: &Value) -> Expected {
-    let is_entry = value.get("call").is_some();
+/// What was expected of a line in which nothing is wrong by itself, behind these lines.
+fn expected_next(before: Before, is_entry: bool) -> Expected {
+    if is_entry && before.entries >= MOST_ENTRIES {
+        Expected::NoMore
+    } else {
+        Expected::Other
+    }
+}
+
+/// What was expected of this line, which is an entry or not, behind these lines.
+fn expected_behind(alloc: Global, before: Before, line: &[u8], is_entry: bool) -> Expected {
     if is_entry && before.words {
         return Expected::NoEntry;
     }
@@ -111,16 +119,15 @@ fn expected_behind(alloc: Global, before: Before, line: &[u8], value: &Value) ->
             column: fault.column,
             words: fault.words,
         },
-        Ok(None) if is_entry && before.entries >= MOST_ENTRIES => Expected::NoMore,
-        Ok(None) => Expected::Other,
+        Ok(None) => expected_next(before, is_entry),
         Err(_) => Expected::Fitting,
     }
 }
 
-/// The value that this line is; or what was expected of the line where it isn't one.
-fn value_of(alloc: Global, line: &[u8]) -> Result<Value, Expected> {
+/// Whether this line is an entry; or what was expected of it where it isn't JSON.
+fn is_entry(alloc: Global, line: &[u8]) -> Result<bool, Expected> {
     match Value::from_slice(alloc, line) {
-        Ok(value) => Ok(value),
+        Ok(value) => Ok(value.get("call").is_some()),
         Err(error) if error.is_memory() => Err(Expected::Fitting),
         Err(error) => Err(Expected::Json {
             column: error.column().max(1),
@@ -128,16 +135,20 @@ fn value_of(alloc: Global, line: &[u8]) -> Result<Value, Expected> {
     }
 }
 
+/// What was expected of this line behind these lines.
+fn expected_in(alloc: Global, before: Before, line: &[u8]) -> Expected {
+    match is_entry(alloc, line) {
+        Ok(is_entry) => expected_behind(alloc, before, line, is_entry),
+        Err(expected) => expected,
+    }
+}
+
 /// What was expected of this line, on condition that it is the first that is refused.
 pub fn expected_of(alloc: Global, before: Before, refused: RefusedLine) -> Expected {
-    let line = match refused {
-        RefusedLine::NoNewline => return Expected::Newline,
-        RefusedLine::TooLong => return Expected::Shorter,
-        RefusedLine::NotKept => return Expected::Fitting,
-        RefusedLine::Whole(line) => line,
-    };
-    match value_of(alloc, line.as_slice()) {
-        Ok(value) => expected_behind(alloc, before, line.as_slice(), &value),
-        Err(expected) => expected,
+    match refused {
+        RefusedLine::NoNewline => Expected::Newline,
+        RefusedLine::TooLong => Expected::Shorter,
+        RefusedLine::NotKept => Expected::Fitting,
+        RefusedLine::Whole(line) => expected_in(alloc, before, line.as_slice()),
     }
 }

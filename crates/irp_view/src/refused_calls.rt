@@ -94,8 +94,7 @@ pub fn note_line(refused: &mut RefusedCalls, line: &Line) -> Result<(), AllocErr
 fn put_call(words: &mut String, call: (u64, Refusal)) -> Result<(), AllocError>
     ensures { OnOk result (words.new.bytes.items ≡ words.old.bytes.items ++ refused_text call) }
 {
-    write!(words, ", entry {} {}", call.0, refusal_name(call.1))?;
-    Ok(())
+    write!(words, ", entry {} {}", call.0, refusal_name(call.1))
 }
 
 /// Puts the first refused calls into a line. The one error is want of memory.
@@ -115,8 +114,7 @@ fn put_more(words: &mut String, more: u64) -> Result<(), AllocError>
     if more == 0 {
         return Ok(());
     }
-    write!(words, ", and {} more", more)?;
-    Ok(())
+    write!(words, ", and {} more", more)
 }
 
 /// Puts the line that tells how many calls are refused, and which, where there are some. The one error is want of

@@ -4,13 +4,13 @@ ghost use Rattle.std.specs.Prelude.{◌≡◌, IfSome};
 ghost use Rattle.irp_view.specs.Sections.{section_of, section_of_part};
 
 use crate::answers::broken_rule;
-use crate::fields::FieldRule;
+use crate::fields::put_field_rule;
 use crate::sections::Section;
-use irp_judge::{Difference, QuestionPart};
+use irp_judge::{Difference, QuestionPart, Wrong};
 use irp_names::{act_of, caller_of, refusal_name};
 use irp_transcript::Header;
 use irp_types::{Asked, Call, CancelAnswer, Entry, Plan, Reply};
-use std::fmt;
+use std::alloc::AllocError;
 
 /// No routine on the way up is asked.
 const NO_FLAG_MET: &str = "no routine on the way up has a flag that is met";
@@ -40,28 +40,22 @@ fn reply_rule(call: Call) -> Rule {
     (act_of(call).answer(), section)
 }
 
-/// The checks of a call, and which of them fails first.
-#[derive(Clone, Copy)]
-struct ChecksWords(Call, Reply);
-
-impl fmt::Display for ChecksWords {
-    fn fmt<W: fmt::Write>(&self, f: &mut fmt::Formatter<W>) -> fmt::Result {
-        let call = self.0;
-        let act = act_of(call);
-        let (which, name) = match self.1 {
-            Reply::Refused(refusal) => ("the first that fails is ", refusal_name(refusal)),
-            _ => ("none fails", ""),
-        };
-        write!(
-            f,
-            "{}'s checks are {}{}: {}{}",
-            act.rules_name(),
-            party_checks(call),
-            act.checks(),
-            which,
-            name
-        )
-    }
+/// Puts the checks of a call, and which of them fails first. The one error is want of memory.
+fn put_checks(words: &mut String, call: Call, reply: Reply) -> Result<(), AllocError> {
+    let act = act_of(call);
+    let (which, name) = match reply {
+        Reply::Refused(refusal) => ("the first that fails is ", refusal_name(refusal)),
+        _ => ("none fails", ""),
+    };
+    write!(
+        words,
+        "{}'s checks are {}{}: {}{}",
+        act.rules_name(),
+        party_checks(call),
+        act.checks(),
+        which,
+        name
+    )
 }
 
 /// Why nobody is asked at first.
@@ -143,64 +137,44 @@ fn asking_rule(made: &Entry, at: usize) -> Rule {
     }
 }
 
-/// The rule that a wrong entry breaks.
-#[derive(Clone, Copy)]
-pub struct RuleWords<'a> {
-    /// What the transcript was made with.
-    pub header: Option<&'a Header>,
-    /// The wrong entry.
-    pub entry: &'a Entry,
-    /// The first part in which it differs.
-    pub difference: Difference,
-    /// What the manager makes in its place.
-    pub made: &'a Entry,
-}
-
-impl RuleWords<'_> {
-    /// The rule of a question that differs in who is asked, or in whether somebody is.
-    fn asked_rule(&self, at: usize, part: QuestionPart) -> &'static str {
-        match part {
-            QuestionPart::TooMany => nobody_rule(self.made, at).0,
-            _ => asking_rule(self.made, at).0,
-        }
+/// Puts the rule of a question that differs in this part. The one error is want of memory.
+fn put_question_rule(
+    words: &mut String,
+    header: Option<&Header>,
+    entry: &Entry,
+    made: &Entry,
+    at: usize,
+    part: QuestionPart,
+) -> Result<(), AllocError> {
+    match (part, entry.asked.as_slice().get(at)) {
+        (QuestionPart::Shown(field), Some(question)) => put_field_rule(words, field, *question),
+        (QuestionPart::Answer, Some(question)) => words.push_str(broken_rule(header, *question)),
+        (QuestionPart::TooMany, _) => words.push_str(nobody_rule(made, at).0),
+        _ => words.push_str(asking_rule(made, at).0),
     }
 }
 
-/// The rule of a question that differs in this part.
-#[derive(Clone, Copy)]
-struct QuestionRule<'a>(RuleWords<'a>, usize, QuestionPart);
-
-impl fmt::Display for QuestionRule<'_> {
-    fn fmt<W: fmt::Write>(&self, f: &mut fmt::Formatter<W>) -> fmt::Result {
-        let QuestionRule(words, at, part) = *self;
-        match (part, words.entry.asked.as_slice().get(at)) {
-            (QuestionPart::Shown(field), Some(question)) => {
-                let question = *question;
-                write!(f, "{}", FieldRule { field, question })
-            }
-            (QuestionPart::Answer, Some(question)) => {
-                f.write_str(broken_rule(words.header, *question))
-            }
-            _ => f.write_str(words.asked_rule(at, part)),
+/// Puts the rule that a wrong entry breaks, which a transcript with this header has. The one error is want of memory.
+pub fn put_rule(
+    words: &mut String,
+    header: Option<&Header>,
+    entry: &Entry,
+    wrong: &Wrong,
+) -> Result<(), AllocError> {
+    let made = &wrong.made;
+    match wrong.difference {
+        Difference::Number => words.push_str(
+            "an entry's number is its place in the history, from 0",
+        ),
+        Difference::Lock => words.push_str(
+            "the remove lock that the device was created with, and none where there was no such device",
+        ),
+        Difference::Drained => words.push_str("without a remove lock nothing is known drained"),
+        Difference::Refusal => put_checks(words, made.call, made.reply),
+        Difference::Question { at, part } => {
+            put_question_rule(words, header, entry, made, at, part)
         }
-    }
-}
-
-impl fmt::Display for RuleWords<'_> {
-    fn fmt<W: fmt::Write>(&self, f: &mut fmt::Formatter<W>) -> fmt::Result {
-        let made = self.made;
-        match self.difference {
-            Difference::Number => f.write_str(
-                "an entry's number is its place in the history, from 0",
-            ),
-            Difference::Lock => f.write_str(
-                "the remove lock that the device was created with, and none where there was no such device",
-            ),
-            Difference::Drained => f.write_str("without a remove lock nothing is known drained"),
-            Difference::Refusal => write!(f, "{}", ChecksWords(made.call, made.reply)),
-            Difference::Question { at, part } => write!(f, "{}", QuestionRule(*self, at, part)),
-            Difference::Reply => f.write_str(reply_rule(made.call).0),
-        }
+        Difference::Reply => words.push_str(reply_rule(made.call).0),
     }
 }
 

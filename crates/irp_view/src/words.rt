@@ -9,11 +9,6 @@ use irp_types::IrpRef;
 use std::alloc::{AllocError, Global};
 use std::convert::AsStr;
 
-/// The name of a file, which may be left out.
-fn file<'a>(alloc: Global) -> Arg<'a> {
-    Arg::new(alloc, "file")
-}
-
 /// The span of entries.
 fn entries<'a>(alloc: Global) -> Arg<'a> {
     Arg::new(alloc, "entries")
@@ -28,34 +23,48 @@ fn number<'a>(alloc: Global, name: &'a str) -> Arg<'a> {
         .value_parser(value_parser!(u64))
 }
 
+/// A command, unless memory ran out.
+type Built<'a> = Result<Command<'a>, AllocError>;
+
+/// A command with one more argument.
+fn with_arg<'a>(command: Built<'a>, arg: Arg<'a>) -> Built<'a> {
+    command?.arg(arg)
+}
+
+/// A command with one more subcommand.
+fn with_subcommand<'a>(command: Built<'a>, subcommand: Built<'a>) -> Built<'a> {
+    command?.subcommand(subcommand?)
+}
+
+/// A command of this name, which takes a file.
+fn reading<'a>(alloc: Global, name: &'a str) -> Built<'a> {
+    Command::new(alloc, name).arg(Arg::new(alloc, "file"))
+}
+
 /// The subcommand `packet`.
-fn packet<'a>(alloc: Global) -> Result<Command<'a>, AllocError> {
-    Command::new(alloc, "packet")
-        .arg(number(alloc, "slot"))?
-        .arg(number(alloc, "use"))?
-        .arg(file(alloc))?
-        .arg(entries(alloc))
+fn packet<'a>(alloc: Global) -> Built<'a> {
+    let command = Ok(Command::new(alloc, "packet"));
+    let command = with_arg(command, number(alloc, "slot"));
+    let command = with_arg(command, number(alloc, "use"));
+    let command = with_arg(command, Arg::new(alloc, "file"));
+    with_arg(command, entries(alloc))
 }
 
 /// The subcommand `page`.
-fn page<'a>(alloc: Global) -> Result<Command<'a>, AllocError> {
+fn page<'a>(alloc: Global) -> Built<'a> {
     let packet = Arg::new(alloc, "packet").long("packet").num_args(2);
-    Command::new(alloc, "page")
-        .arg(file(alloc))?
-        .arg(entries(alloc))?
-        .arg(packet.value_parser(value_parser!(u64)))
+    let command = with_arg(reading(alloc, "page"), entries(alloc));
+    with_arg(command, packet.value_parser(value_parser!(u64)))
 }
 
 /// The command line that the program takes.
-fn command<'a>(alloc: Global) -> Result<Command<'a>, AllocError> {
-    let why = Command::new(alloc, "why").arg(file(alloc))?;
-    let text = Command::new(alloc, "text").arg(file(alloc))?;
-    let text = text.arg(entries(alloc))?;
-    let command = Command::new(alloc, "irp_view").subcommand_required(true);
-    let command = command.subcommand(why)?;
-    let command = command.subcommand(text)?;
-    let command = command.subcommand(packet(alloc)?)?;
-    command.subcommand(page(alloc)?)
+fn command<'a>(alloc: Global) -> Built<'a> {
+    let command = Ok(Command::new(alloc, "irp_view").subcommand_required(true));
+    let command = with_subcommand(command, reading(alloc, "why"));
+    let text = with_arg(reading(alloc, "text"), entries(alloc));
+    let command = with_subcommand(command, text);
+    let command = with_subcommand(command, packet(alloc));
+    with_subcommand(command, page(alloc))
 }
 
 /// A place in the history, or this one where the text is empty.
@@ -185,19 +194,22 @@ fn halves(word: &str) -> Option<(&str, &str)> {
     }
 }
 
+/// Puts a word behind these. The one error is want of memory.
+fn put_whole(words: &mut Vec<String>, word: &str) -> Result<(), AllocError> {
+    let alloc = *words.allocator();
+    words.push(word.to_string(alloc)?)?;
+    Ok(())
+}
+
 /// Puts a word behind these, in two where it names a use of a packet and may. The one error is want of memory.
 fn put_word(words: &mut Vec<String>, word: &str, may_name: bool) -> Result<(), AllocError> {
-    let alloc = *words.allocator();
     match halves(word) {
         Some((slot, use_no)) if may_name => {
-            words.push(slot.to_string(alloc)?)?;
-            words.push(use_no.to_string(alloc)?)?;
+            put_whole(words, slot)?;
+            put_whole(words, use_no)
         }
-        _ => {
-            words.push(word.to_string(alloc)?)?;
-        }
+        _ => put_whole(words, word),
     }
-    Ok(())
 }
 
 /// These words, where a use that is named as SLOT.USE behind `packet` or `--packet` is two words. The one error is want
