@@ -111,8 +111,8 @@ pub told_judges : (script : ScriptParts) (order : Order) (text : List ℕ) (foun
     → AreOutcomesOf script (tells order) (outcomes_of founds) → IsTold script (tells order) text founds ending
     → Judges script order text ending
 told_judges script order text founds ending are told =
-    subst (λ (ending : Ending). Judges script order text ending) (sym told.ends)
-    (judged_by script order text founds told.condition told.shown are told.says told.verdict)
+    subst (λ (ending : Ending). Judges script order text ending) (sym told.judged.ends)
+    (judged_by script order text founds told.condition told.judged.shown are told.says told.judged.verdict)
 
 pub unexplored_judges : (script : ScriptParts) (order : Order) (text : List ℕ) (ending : Ending)
     → IsUnexplored script order ending → Judges script order text ending

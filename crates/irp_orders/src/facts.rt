@@ -70,11 +70,7 @@ fn seen_by(answer: Option<Answered>) -> Option<Told>
 fn all_seen(alloc: Global, answers: &[Option<Answered>]) -> Result<Vec<Option<Told>>, AllocError>
     ensures { IfOk result (λ seen. seen.items ≡ map (option_map spec.seen_of) answers.now) }
 {
-    let mut seen = Vec::new(alloc);
-    for answer in answers {
-        seen.push(seen_by(*answer))?;
-    }
-    Ok(seen)
+    answers.iter().map(|answer| seen_by(*answer)).collect(alloc)
 }
 
 /// What each step was answered, as conditions see it.
