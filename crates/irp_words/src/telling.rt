@@ -6,10 +6,10 @@ ghost use Rattle.irp_words.specs.Telling.{Fails, Prints};
 
 use crate::ending::Ending;
 use irp_grammar::{Said, Told, Untold, fault_lines, json, read_lines, words};
-use irp_script_faults::{Warning, warnings};
 use irp_script_reader::{ScriptFault, read_script};
 use irp_streams::{Out, put_all};
 use irp_text_faults::{FaultMessage, Place, faults};
+use irp_warnings::{Warning, warnings};
 use std::alloc::{AllocError, Global};
 
 /// Puts out what is wrong with a script.

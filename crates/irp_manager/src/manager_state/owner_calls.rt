@@ -62,7 +62,7 @@ impl<K: Keep> ManagerState<K> {
             Call::SetCancelRoutine { cancel, .. } => {
                 packets::set_cancel_routine(live, counts, cancel)
             }
-            _ => Reply::Done,
+            _ => unreachable!(),
         }
     }
 }
