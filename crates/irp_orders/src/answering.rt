@@ -231,7 +231,7 @@ fn show<O: Out>(
 }
 
 /// Tells what is asked of the orders of a script.
-fn answer<O: Out>(alloc: Global, output: &mut O, script: &Script, order: &Order<'_>) -> Ending
+pub fn answer<O: Out>(alloc: Global, output: &mut O, script: &Script, order: &Order<'_>) -> Ending
     ensures { Answers script.now order.now order.now.task (O.gone output.old)
         (O.gone output.new) result }
 {
@@ -244,12 +244,7 @@ fn answer<O: Out>(alloc: Global, output: &mut O, script: &Script, order: &Order<
 }
 
 /// Tells what is asked of the orders of the script that a text is.
-pub fn read_and_answer<O: Out>(
-    alloc: Global,
-    output: &mut O,
-    order: &Order<'_>,
-    text: &[u8],
-) -> Ending
+fn read_and_answer<O: Out>(alloc: Global, output: &mut O, order: &Order<'_>, text: &[u8]) -> Ending
     ensures { IsGivenUp result ⊎ (IsRefused text.now result
         ⊎ IsAnswered order.now text.now (O.gone output.old) (O.gone output.new) result) }
 {

@@ -70,7 +70,11 @@ fn seen_by(answer: Option<Answered>) -> Option<Told>
 fn all_seen(alloc: Global, answers: &[Option<Answered>]) -> Result<Vec<Option<Told>>, AllocError>
     ensures { IfOk result (λ seen. seen.items ≡ map (option_map spec.seen_of) answers.now) }
 {
-    answers.iter().map(|answer| seen_by(*answer)).collect(alloc)
+    let mut seen = Vec::new(alloc);
+    for answer in answers {
+        seen.push(seen_by(*answer))?;
+    }
+    Ok(seen)
 }
 
 /// What each step was answered, as conditions see it.

@@ -102,13 +102,14 @@ fn shortest(founds: &[Found], marks: &[bool]) -> Option<usize>
 }
 
 /// Whether an outcome breaks what is asked. The one error is want of memory.
+#[tactic(auto, using(crate::proofs::Righting::wrong_mark))]
 fn breaks(
     alloc: Global,
     steps: &[Step],
     question: Question<'_>,
     found: &Found,
 ) -> Result<bool, AllocError>
-    ensures { IfOk result (λ does. IsTrue does ↔ Breaks steps.now question found.now) }
+    ensures { IfOk result (λ does. IsTrue does ↔ Breaks steps.now question.entry found.now) }
 {
     match question {
         Question::Never(condition) => meets(alloc, steps, &found.outcome.end, condition),
@@ -127,7 +128,7 @@ fn marks_of(
     question: Question<'_>,
 ) -> Result<Vec<bool>, AllocError>
     ensures { IfOk result (λ marks.
-        AreMarks (Breaks steps.now question) founds.now marks.items) }
+        AreMarks (Breaks steps.now question.entry) founds.now marks.items) }
 {
     let mut marks = Vec::new(alloc);
     for found in founds {
@@ -145,9 +146,9 @@ pub fn judged(
     question: Question<'_>,
 ) -> Result<Judgment, AllocError>
     ensures marks { IfOk result (λ judged.
-        AreMarks (Breaks steps.now question) founds.now judged.marks.items) }
+        AreMarks (Breaks steps.now question.entry) founds.now judged.marks.items) }
     ensures verdict { IfOk result (λ judged.
-        IsVerdict (Breaks steps.now question) founds.now judged.shown) }
+        IsVerdict (Breaks steps.now question.entry) founds.now judged.shown) }
 {
     let marks = marks_of(alloc, steps, founds, question)?;
     let shown = shortest(founds, marks.as_slice());
@@ -313,7 +314,7 @@ pub fn answered(
     question: Question<'_>,
 ) -> Result<(Vec<u8>, Ending), NotMade>
     ensures { IfOk result (λ told.
-        IsJudged (Breaks script.now.steps question) founds.now told.1) }
+        IsJudged (Breaks script.now.steps question.entry) founds.now told.1) }
 {
     let judged = judged(alloc, script.parts().steps.as_slice(), founds, question)?;
     let columns = Columns::of(alloc, script, founds)?;

@@ -3,7 +3,7 @@
 use crate::text::Text;
 use irp_listing::WordLineWords;
 use irp_machine::Answered;
-use irp_names::{PacketWords, PartyWords, ReplyWords, call_name, caller_of};
+use irp_names::{PacketWords, PartyWords, ReplyWords, call_name, caller_of, told_if};
 use irp_script_reader::{Named, Step, StepAct};
 use irp_transcript::{Act, WordLine, WordReply};
 use irp_types::{Call, DeviceId, IrpRef, Reply, SlotAct};
@@ -39,18 +39,15 @@ fn put_arguments(
     device: Option<DeviceId>,
     packet: Option<Named>,
 ) {
+    out.put("(");
     if let Some(device) = device {
-        out.tell("(D", device.0);
-        if let Some(named) = packet {
-            out.put(", ");
-            put_named(out, labels, named);
-        }
-        out.put(")");
-    } else if let Some(named) = packet {
-        out.put("(");
-        put_named(out, labels, named);
-        out.put(")");
+        out.tell("D", device.0);
+        out.put(told_if(packet.is_some(), ", "));
     }
+    if let Some(named) = packet {
+        put_named(out, labels, named);
+    }
+    out.put(")");
 }
 
 /// Puts a call of a step and its reply.
@@ -61,7 +58,10 @@ fn put_call(out: &mut Text, labels: &[String], named: Call<Named, u32>, reply: R
         out.put(": ");
     }
     out.put(call_name(call));
-    put_arguments(out, labels, device_of(call), named.packet());
+    let (device, packet) = (device_of(call), named.packet());
+    if device.is_some() || packet.is_some() {
+        put_arguments(out, labels, device, packet);
+    }
     out.tell(" -> ", ReplyWords { call, reply });
 }
 
