@@ -1,3 +1,1 @@
-pub mod Makes
-pub mod Slots
-pub mod Texts
+pub mod Bench

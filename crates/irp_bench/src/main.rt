@@ -3,37 +3,28 @@
 #![tactic(auto)]
 
 mod caller;
-mod done;
-mod not_timed;
-mod packets;
+mod calls;
 mod pairs;
-mod sessions;
 mod table;
 mod texts;
+mod timed;
 
-use crate::not_timed::NotTimed;
+use crate::table::time_rows;
+use crate::timed::{Host, NotTimed, Timed};
+use irp_program::{Unasked, stop, words_of};
 use std::process::ExitCode;
-use std::rt::{Clock, Env};
-use std::sync::Wait;
-use std::thread::Threads;
-use std::{env, io};
+use std::rt::Env;
 
-/// The words that the program was given, behind its name.
-fn words_of<R: Env + AllocGlobal>(rt: &R) -> Result<Vec<String>, NotTimed> {
-    match env::args(rt) {
-        Ok(words) => Ok(words.skip(1).collect(rt.alloc())?),
-        Err(error) if error.kind() == io::ErrorKind::OutOfMemory => Err(NotTimed::Memory),
-        Err(_) => Err(NotTimed::Usage),
-    }
-}
-
-/// Times what the words ask for, and nothing where there are none.
-fn run<R: Threads + Wait + Sync + Clock + Env + Eprint + AllocGlobal>(
-    rt: &R,
-) -> Result<(), NotTimed> {
-    match words_of(rt)?.as_slice() {
-        [] => Ok(()),
-        [word] => table::time_rows(rt, word.as_str()),
+/// Times what the word behind the program's name asks for, and nothing where there is none.
+fn run<R: Host + Env + Eprint>(rt: &R) -> Timed<()> {
+    let words = match words_of(rt) {
+        Ok(words) => words,
+        Err(Unasked::NoMemory) => return Err(NotTimed::Memory),
+        Err(Unasked::Usage) => return Err(NotTimed::Usage),
+    };
+    match words.as_slice() {
+        [] | [_] => Ok(()),
+        [_, word] => time_rows(rt, word.as_str()),
         _ => Err(NotTimed::Usage),
     }
 }
@@ -43,8 +34,5 @@ fn main(rt: HostRuntime) -> ExitCode {
         return ExitCode::SUCCESS;
     };
     let (status, line) = fault.told();
-    match eprintln!(&rt; "irp_bench: {line}") {
-        Ok(()) => ExitCode::from(status),
-        Err(_) => ExitCode::from(NotTimed::Failed.told().0),
-    }
+    stop(&rt, status, true, &line)
 }

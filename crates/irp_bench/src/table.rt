@@ -1,13 +1,10 @@
 //! The table of all loads, and the loop that times them.
 
-use crate::done::Done;
-use crate::not_timed::NotTimed;
-use crate::pairs::{Pair, acquire_and_release, add_and_subtract, pairs_on_slots};
-use crate::sessions::{Calls, time_calls};
+use crate::calls::{Calls, time_calls};
+use crate::pairs::{Pair, time_slots, time_threads};
 use crate::texts::{Sample, Task, perform, record_sample};
-use std::rt::Clock;
-use std::sync::Wait;
-use std::thread::Threads;
+use crate::timed::{Done, Host, NotTimed, Timed};
+use std::time::Duration;
 
 /// How often each load is timed. The least time counts, since what else runs on the machine only adds to it.
 const ROUNDS: u32 = 5;
@@ -17,44 +14,30 @@ const ROUNDS: u32 = 5;
 enum Load {
     Lock,
     Word,
-    Slot(Pair),
+    Slots(Pair),
     Alone(Calls),
     Recorded(Calls),
     Text(Task),
 }
 
-/// What a word asks for: a load, with its name, and another that is timed beside it, for each of some numbers.
-#[derive(Clone, Copy)]
-struct Row {
-    word: &'static str,
-    name: &'static str,
-    load: Load,
-    beside_name: &'static str,
-    beside: Load,
-    numbers: &'static [u32],
-}
+/// A word, the name of a load that it asks for, the load, what is timed beside it, with its name, and a number.
+type Row = (&'static str, &'static str, Load, &'static str, Load, u32);
 
-/// Rows: a word, the name of a load, the load, and what is timed beside it; then the numbers.
+/// Rows: a word, the name of a load, the load, and what is timed beside it; then the numbers, each of a row of its own.
 macro_rules! rows {
-    ($($word:literal: $name:literal $load:expr; $beside_name:literal $beside:expr; $numbers:expr;)*) => {
-        [$(Row {
-            word: $word,
-            name: $name,
-            load: $load,
-            beside_name: $beside_name,
-            beside: $beside,
-            numbers: &$numbers,
-        }),*]
+    ($($word:literal: $name:literal $load:expr; $beside_name:literal $beside:expr; [$($number:expr),*];)*) => {
+        [$($(($word, $name, $load, $beside_name, $beside, $number),)*)*]
     };
 }
 
 /// All that the program times, in this order.
-static TABLE: [Row; 11] = rows! {
-    "locks": "acquire and release, threads" Load::Lock; "fetch-add and fetch-sub" Load::Word; [1, 4];
-    "slots": "publish and withdraw, slots" Load::Slot(Pair::Withdrawn);
-        "two swaps and a fetch-or" Load::Slot(Pair::Bare); [64];
-    "slots": "publish and request, slots" Load::Slot(Pair::Requested);
-        "two swaps and a fetch-or" Load::Slot(Pair::Bare); [64];
+static TABLE: [Row; 27] = rows! {
+    "locks": "acquire and release, threads" Load::Lock;
+        "fetch-add and fetch-sub" Load::Word; [1, 4];
+    "slots": "publish and withdraw, slots" Load::Slots(Pair::Withdrawn);
+        "two swaps and a fetch-or" Load::Slots(Pair::Bare); [64];
+    "slots": "publish and request, slots" Load::Slots(Pair::Requested);
+        "two swaps and a fetch-or" Load::Slots(Pair::Bare); [64];
     "calls": "a recorded call, of four, threads" Load::Recorded(Calls::Rounds);
         "by the manager alone" Load::Alone(Calls::Rounds); [1, 2, 4, 8];
     "calls": "a recorded call, of four, entries" Load::Recorded(Calls::Entries);
@@ -74,74 +57,46 @@ static TABLE: [Row; 11] = rows! {
 };
 
 /// Runs a load once, with a sample where it is of texts.
-fn run<R: Threads + Wait + Sync + Clock + AllocGlobal>(
-    rt: &R,
-    load: Load,
-    number: u32,
-    sample: Option<&Sample>,
-) -> Result<Done, NotTimed> {
+fn run<R: Host>(rt: &R, load: Load, number: u32, sample: Option<&Sample>) -> Timed<Done> {
     match (load, sample) {
-        (Load::Lock, _) => acquire_and_release(rt, number),
-        (Load::Word, _) => add_and_subtract(rt, number),
-        (Load::Slot(pair), _) => pairs_on_slots(rt, pair, number),
+        (Load::Lock, _) => time_threads(rt, false, number),
+        (Load::Word, _) => time_threads(rt, true, number),
+        (Load::Slots(pair), _) => time_slots(rt, pair, number),
         (Load::Alone(calls), _) => time_calls(rt, calls, number, false),
         (Load::Recorded(calls), _) => time_calls(rt, calls, number, true),
-        (Load::Text(task), Some(sample)) => perform(rt, rt.alloc(), task, sample),
+        (Load::Text(task), Some(sample)) => perform(rt, task, sample),
         (Load::Text(_), None) => Err(NotTimed::Failed),
     }
 }
 
-/// The least times of the two loads of a row, which take turns.
-fn least<R: Threads + Wait + Sync + Clock + AllocGlobal>(
-    rt: &R,
-    row: Row,
-    number: u32,
-) -> Result<(Done, Done), NotTimed> {
-    let sample = match row.load {
+/// The least times of two loads, which take turns.
+fn least<R: Host>(rt: &R, load: Load, beside: Load, number: u32) -> Timed<(Done, Done)> {
+    let sample = match load {
         Load::Text(_) => Some(record_sample(rt, number)?),
         _ => None,
     };
-    let (mut first, mut second) = (Done::NEVER, Done::NEVER);
+    let never = Done::of(1, 0, Duration::MAX);
+    let (mut first, mut second) = (never, never);
     for _ in 0..ROUNDS {
-        first = first.min(run(rt, row.load, number, sample.as_ref())?);
-        second = second.min(run(rt, row.beside, number, sample.as_ref())?);
+        first = first.min(run(rt, load, number, sample.as_ref())?);
+        second = second.min(run(rt, beside, number, sample.as_ref())?);
     }
     Ok((first, second))
 }
 
-/// Times a row for each of its numbers, and writes a line for each to standard error.
-fn time_row<R: Threads + Wait + Sync + Clock + Eprint + AllocGlobal>(
-    rt: &R,
-    row: Row,
-) -> Result<(), NotTimed> {
-    let (name, beside) = (row.name, row.beside_name);
-    for &number in row.numbers {
-        let (first, second) = least(rt, row, number)?;
-        let ratio = first.nanoseconds() / second.nanoseconds();
-        eprintln!(rt; "irp_bench: {name} {number}: {first}; {beside}: {second}; ratio {ratio:.2}")?;
-    }
-    Ok(())
-}
-
-/// Times the rows of a word.
-///
-/// # Errors
-///
-/// `Usage` where no row has the word; else why not all could be timed.
-pub fn time_rows<R: Threads + Wait + Sync + Clock + Eprint + AllocGlobal>(
-    rt: &R,
-    asked: &str,
-) -> Result<(), NotTimed> {
-    let mut is_known = false;
-    for row in TABLE.iter() {
-        if row.word == asked {
-            is_known = true;
-            time_row(rt, *row)?;
+/// Times the rows of a word, and writes a line for each to standard error. `Usage` where no row has the word; else an
+/// error tells why not all could be timed.
+pub fn time_rows<R: Host + Eprint>(rt: &R, asked: &str) -> Timed<()> {
+    let mut outcome = Err(NotTimed::Usage);
+    for &(word, name, load, beside_name, beside, number) in TABLE.iter() {
+        if word == asked {
+            let (first, second) = least(rt, load, beside, number)?;
+            let ratio = first.nanoseconds() / second.nanoseconds();
+            eprintln!(rt;
+                "irp_bench: {name} {number}: {first}; {beside_name}: {second}; ratio {ratio:.2}"
+            )?;
+            outcome = Ok(());
         }
     }
-    if is_known {
-        Ok(())
-    } else {
-        Err(NotTimed::Usage)
-    }
+    outcome
 }

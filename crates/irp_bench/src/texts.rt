@@ -1,23 +1,20 @@
 //! Transcripts of sessions: their texts, written and read, also by `serde_json` alone, and their judging.
 
 ghost use Rattle.std.specs.Prelude.{◌≡◌, Some, IfOk};
-ghost use Rattle.irp_bench.specs.Texts.{ComesOf, IsExpected};
-ghost use Rattle.irp_transcript.specs.Headers.{IsHeader};
+ghost use Rattle.irp_bench.specs.Bench.{ComesOf, HasCome};
 ghost use Rattle.irp_transcript_writer.specs.Lines.{lines, text_of};
 
-use crate::done::Done;
-use crate::not_timed::NotTimed;
-use crate::sessions::{do_work, sends};
+use crate::calls::{Work, do_work};
+use crate::timed::{Done, Host, NotTimed, Timed};
 use irp_fast_reader::{Line, Reader, read_transcript};
 use irp_judge::{Judge, Verdict, check};
-use irp_shared::{Header, Transcript};
+use irp_shared::Transcript;
 use irp_streams::{Failed, Out};
 use irp_transcript_writer::write_transcript;
+use irp_types::DeviceId;
 use serde_json::Value;
 use std::alloc::{AllocError, Global};
 use std::rt::Clock;
-use std::sync::Wait;
-use std::thread::Threads;
 use std::time::Instant;
 
 /// How many lines' values are written by `serde_json` alone.
@@ -26,8 +23,8 @@ const LINES: usize = 10_000;
 /// How many bytes a block has, but for the last one.
 const BLOCK: usize = 262_144;
 
-/// How many devices stand in the stack that the packet is sent through.
-const DEVICES: u32 = 4;
+/// The highest of the four devices that the packet is sent through.
+const TOP: DeviceId = DeviceId(3);
 
 /// How many calls come first: four devices are created, three attached, and a packet is allocated.
 const FIRST_CALLS: u32 = 8;
@@ -49,27 +46,23 @@ pub enum Task {
     Blocks,
 }
 
-/// A transcript, its text, and the values of the text's first lines.
+/// A transcript, its text, the values of the text's first lines, and how many bytes these lines have.
 #[derive(Drop)]
 pub struct Sample {
     entries: u32,
     transcript: Transcript,
     text: Vec<u8>,
     values: Vec<Value>,
-    /// How many bytes the lines of these values have.
     bytes: u64,
 }
 
-/// What came of a task.
+/// What came of a task; `Count` is of bytes that were written, or of lines that were read.
 #[derive(Drop)]
 enum Made {
     Text(Vec<u8>),
     Transcript(Transcript),
     Verdict(Verdict),
-    /// So many bytes.
-    Bytes(u64),
-    /// So many lines.
-    Lines(u64),
+    Count(u64),
 }
 
 /// A text in memory, and how often it could not grow.
@@ -95,13 +88,11 @@ impl Out for TextOut {
 }
 
 /// The text of a transcript, with room for so many bytes from the beginning.
-fn text(alloc: Global, transcript: &Transcript, room: usize) -> Result<Vec<u8>, NotTimed>
+fn text(alloc: Global, transcript: &Transcript, room: usize) -> Timed<Vec<u8>>
     ensures { IfOk result (λ text. text.items ≡ text_of (lines transcript.now)) }
 {
-    let mut text = TextOut {
-        bytes: Vec::with_capacity(alloc, room)?,
-        failures: 0,
-    };
+    let (bytes, failures) = (Vec::with_capacity(alloc, room)?, 0);
+    let mut text = TextOut { bytes, failures };
     match write_transcript(alloc, &mut text, transcript) {
         Ok(()) => Ok(text.bytes),
         Err(_) => Err(NotTimed::Memory),
@@ -110,7 +101,7 @@ fn text(alloc: Global, transcript: &Transcript, room: usize) -> Result<Vec<u8>, 
 
 /// The values of the text's first lines, and how many bytes these lines have. That a line isn't read is for want of
 /// memory.
-fn first_values(alloc: Global, text: &[u8]) -> Result<(Vec<Value>, u64), NotTimed> {
+fn first_values(alloc: Global, text: &[u8]) -> Timed<(Vec<Value>, u64)> {
     let mut values = Vec::new(alloc);
     let mut bytes: u64 = 0;
     for line in text.split_inclusive(|&byte| byte == b'\n') {
@@ -120,9 +111,8 @@ fn first_values(alloc: Global, text: &[u8]) -> Result<(Vec<Value>, u64), NotTime
         let Ok(value) = Value::from_slice(alloc, line) else {
             return Err(NotTimed::Memory);
         };
-        if serde_json::push(&mut values, value).is_err() {
-            return Err(NotTimed::Memory);
-        }
+        values.reserve(1)?;
+        values.push_reserved(value);
         bytes = bytes.saturating_add(line.len() as u64);
     }
     Err(NotTimed::Failed)
@@ -130,19 +120,13 @@ fn first_values(alloc: Global, text: &[u8]) -> Result<(Vec<Value>, u64), NotTime
 
 /// A transcript of so many entries, and its text: in a session of one seat, a packet is sent through four devices again
 /// and again, with the three calls before each send that make it ready.
-///
-/// # Errors
-///
 /// `Memory` where memory ran out, and `Failed` where a call was answered otherwise than it should be, or the number of
 /// entries can't be had: it is a multiple of four, and 10,000 to 1,000,000.
-pub fn record_sample<R: Threads + Wait + Sync + Clock + AllocGlobal>(
-    rt: &R,
-    entries: u32,
-) -> Result<Sample, NotTimed>
+pub fn record_sample<R: Host>(rt: &R, entries: u32) -> Timed<Sample>
     ensures { IfOk result (λ sample. sample.text.items ≡ text_of (lines sample.transcript)) }
 {
     let times = entries.saturating_sub(FIRST_CALLS) / 4;
-    let Some(transcript) = do_work(rt, Some(1), sends(DEVICES, 1, times))?.1 else {
+    let Some(transcript) = do_work(rt, Some(1), Work::Sends(TOP, 1, times))?.1 else {
         return Err(NotTimed::Failed);
     };
     if transcript.entries().len() != entries as usize {
@@ -170,7 +154,7 @@ fn write_values(alloc: Global, values: &[Value]) -> Result<u64, AllocError> {
 }
 
 /// Reads the value of each line, drops it, and counts the lines.
-fn read_values(alloc: Global, text: &[u8]) -> Result<u64, NotTimed> {
+fn read_values(alloc: Global, text: &[u8]) -> Timed<u64> {
     let mut lines: u64 = 0;
     for line in text.split_inclusive(|&byte| byte == b'\n') {
         if Value::from_slice(alloc, line).is_err() {
@@ -182,12 +166,7 @@ fn read_values(alloc: Global, text: &[u8]) -> Result<u64, NotTimed> {
 }
 
 /// Reads the lines that end in a block, and has the judge judge their entries.
-fn judge_block(
-    alloc: Global,
-    reader: &mut Reader,
-    judge: &mut Judge,
-    block: &[u8],
-) -> Result<(), NotTimed> {
+fn judge_block(alloc: Global, reader: &mut Reader, judge: &mut Judge, block: &[u8]) -> Timed<()> {
     let mut rest = block;
     while !rest.is_empty() {
         let Some((line, count)) = reader.next(alloc, rest)? else {
@@ -201,80 +180,58 @@ fn judge_block(
     Ok(())
 }
 
-/// The verdict on a text with this header, read and judged block after block.
-fn verdict_on(alloc: Global, header: &Header, text: &[u8]) -> Result<Verdict, NotTimed>
-    requires { IsHeader header.now }
-{
-    let mut reader = Reader::new(alloc);
-    let mut judge = Judge::new(alloc, header);
-    for block in text.chunks(BLOCK) {
-        judge_block(alloc, &mut reader, &mut judge, block)?;
-    }
-    reader.finish()?;
-    Ok(judge.verdict())
-}
-
 /// Does this with the sample.
-fn work(alloc: Global, task: Task, sample: &Sample) -> Result<Made, NotTimed>
+fn work(alloc: Global, task: Task, sample: &Sample) -> Timed<Made>
     ensures { IfOk result (λ made. ComesOf task sample.now made) }
 {
     let (transcript, given) = (&sample.transcript, sample.text.as_slice());
     Ok(match task {
         Task::Write => Made::Text(text(alloc, transcript, given.len())?),
-        Task::WriteValues => Made::Bytes(write_values(alloc, sample.values.as_slice())?),
+        Task::WriteValues => Made::Count(write_values(alloc, sample.values.as_slice())?),
         Task::Read => Made::Transcript(read_transcript(alloc, given)?),
-        Task::ReadValues => Made::Lines(read_values(alloc, given)?),
+        Task::ReadValues => Made::Count(read_values(alloc, given)?),
         Task::Judge => Made::Verdict(check(alloc, transcript)?),
         Task::Blocks => {
             transcript.is_one();
             let Some(header) = transcript.header() else {
                 return Err(NotTimed::Failed);
             };
-            Made::Verdict(verdict_on(alloc, header, given)?)
+            let mut reader = Reader::new(alloc);
+            let mut judge = Judge::new(alloc, header);
+            for block in given.chunks(BLOCK) {
+                judge_block(alloc, &mut reader, &mut judge, block)?;
+            }
+            reader.finish()?;
+            Made::Verdict(judge.verdict())
         }
     })
 }
 
-/// An error unless this is what had to come of a task: all of the entries, lines or bytes, and each legal.
-fn expect(sample: &Sample, made: &Made) -> Result<(), NotTimed>
-    ensures { IfOk result (λ _. IsExpected sample.now made.now) }
+/// Times a task. To look at what came of it, and to drop that, is not in the time. It has to be all of the entries,
+/// lines or bytes, and each legal.
+pub fn perform<R: Clock + AllocGlobal>(rt: &R, task: Task, sample: &Sample) -> Timed<Done>
+    ensures { IfOk result (λ _. HasCome task sample.now) }
 {
-    let entries = u64::from(sample.entries);
-    let is_expected = match made {
-        Made::Text(text) => text.len() == sample.text.len(),
-        Made::Transcript(made) => made.entries().len() == sample.entries as usize,
-        Made::Verdict(verdict) => *verdict == (Verdict::Legal { entries }),
-        Made::Bytes(bytes) => *bytes == sample.bytes,
-        Made::Lines(lines) => *lines == entries + 1,
-    };
-    match made {
-        _ if is_expected => Ok(()),
-        Made::Verdict(_) => Err(NotTimed::NotLegal),
-        _ => Err(NotTimed::Failed),
-    }
-}
-
-/// Times a task. To look at what came of it, and to drop that, is not in the time.
-pub fn perform<R: Clock>(
-    rt: &R,
-    alloc: Global,
-    task: Task,
-    sample: &Sample,
-) -> Result<Done, NotTimed> {
+    let alloc = rt.alloc();
     let start = Instant::now(rt)?;
     let made = work(alloc, task, sample)?;
     let taken = start.elapsed(rt);
-    let expected = expect(sample, &made);
-    drop(made);
-    expected?;
-    let (count, bytes) = match task {
-        Task::WriteValues => (LINES as u32, sample.bytes),
-        _ => (sample.entries, sample.text.len() as u64),
+    let entries = u64::from(sample.entries);
+    let (count, bytes, most) = match task {
+        Task::WriteValues => (LINES as u32, sample.bytes, sample.bytes),
+        _ => (sample.entries, sample.text.len() as u64, entries + 1),
     };
-    let taken = taken?;
-    Ok(Done {
-        count,
-        bytes,
-        taken,
-    })
+    let is_expected = match &made {
+        Made::Text(text) => text.len() == sample.text.len(),
+        Made::Transcript(made) => made.entries().len() == sample.entries as usize,
+        Made::Verdict(verdict) => *verdict == (Verdict::Legal { entries }),
+        Made::Count(made) => *made == most,
+    };
+    let is_verdict = matches!(made, Made::Verdict(_));
+    drop(made);
+    match is_expected {
+        true => Ok(Done::of(count, bytes, taken?)),
+        false if is_verdict => Err(NotTimed::NotLegal),
+        false => Err(NotTimed::Failed),
+    }
 }

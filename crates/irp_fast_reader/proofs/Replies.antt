@@ -1,9 +1,9 @@
 -- Replies are read as they were written, and their forms stand.
 use Rattle.std.proofs.Common.{◌≡◌, ℕ, suc, true, Some, refl}
 use Rattle.serde_json.specs.Data.{string}
-use Rattle.irp_forms.specs.Found.{refusal_found}
-use Rattle.irp_forms.specs.Names.{refusal_at, refusal_name, refusals}
+use Rattle.irp_forms.specs.Names.{refusal_at}
 use Rattle.irp_forms.specs.Parts.{has_keys}
+use Rattle.irp_types.specs.Refusal.{refusal_found, refusal_name, refusals}
 use Rattle.irp_types.specs.declared.{location.Owner.Owner, refusal.Refusal.Refusal, reply.Reply.Reply}
 use Rattle.irp_types.specs.declared.reply.Seen.{Seen}
 use Rattle.irp_types.specs.declared.location.Owner.TheVariants as owner

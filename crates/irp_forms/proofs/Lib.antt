@@ -1,3 +1,4 @@
 pub mod Lists
 pub mod Texts
 pub mod Keys
+pub mod Quoting

@@ -6,8 +6,9 @@ use Rattle.serde_json.specs.Data.{Data}
 use Rattle.serde_json.specs.Find.{as_str}
 use Rattle.irp_forms.specs.Parts.{◌>>=◌}
 use Rattle.irp_forms.specs.declared.names.Flags.{Flags}
+pub use Rattle.irp_types.specs.Refusal.{refusal_name}
+unfoldable pub use Rattle.irp_types.specs.Refusal.{refusals}
 use Rattle.irp_types.specs.declared.{refusal.Refusal.Refusal, routine.CancelRule.CancelRule, routine.Rule.Rule}
-use Rattle.irp_types.specs.declared.refusal.Refusal.TheVariants as refusal
 use Rattle.irp_types.specs.declared.routine.CancelRule.TheVariants as cancel_rule
 use Rattle.irp_types.specs.declared.routine.Rule.TheVariants as rule
 
@@ -78,48 +79,6 @@ flags_at form = as_str form >>= first_named flags_name every_flags
 abbrev pub answer_name : Bool → List ℕ
 answer_name true = codes "keep"
 answer_name false = codes "continue"
-
--- the name of a refusal
-abbrev pub refusal_name : Refusal → List ℕ
-refusal_name refusal.NoIrp = codes "NoIrp"
-refusal_name refusal.Stale = codes "Stale"
-refusal_name refusal.NoDevice = codes "NoDevice"
-refusal_name refusal.DeviceGone = codes "DeviceGone"
-refusal_name refusal.NotOwner = codes "NotOwner"
-refusal_name refusal.NoLocation = codes "NoLocation"
-refusal_name refusal.NotPrepared = codes "NotPrepared"
-refusal_name refusal.AfterSkip = codes "AfterSkip"
-refusal_name refusal.TooShort = codes "TooShort"
-refusal_name refusal.WrongTarget = codes "WrongTarget"
-refusal_name refusal.NoRoutine = codes "NoRoutine"
-refusal_name refusal.BadStatus = codes "BadStatus"
-refusal_name refusal.CancelRoutineSet = codes "CancelRoutineSet"
-refusal_name refusal.AlreadyCancelled = codes "AlreadyCancelled"
-refusal_name refusal.InFlight = codes "InFlight"
-refusal_name refusal.StillAttached = codes "StillAttached"
-refusal_name refusal.SameStack = codes "SameStack"
-refusal_name refusal.TooDeep = codes "TooDeep"
-refusal_name refusal.Full = codes "Full"
-refusal_name refusal.NothingAttached = codes "NothingAttached"
-refusal_name refusal.NotDrained = codes "NotDrained"
-refusal_name refusal.BadSize = codes "BadSize"
-refusal_name refusal.BadMajor = codes "BadMajor"
-refusal_name refusal.NoDriver = codes "NoDriver"
-refusal_name refusal.Ended = codes "Ended"
-refusal_name refusal.HistoryFull = codes "HistoryFull"
-refusal_name refusal.NoLock = codes "NoLock"
-refusal_name refusal.SlotHeld = codes "SlotHeld"
-refusal_name refusal.NotSlotHeld = codes "NotSlotHeld"
-
--- every refusal
-unfoldable pub refusals : List Refusal
-refusals =
-    refusal.NoIrp ∷ refusal.Stale ∷ refusal.NoDevice ∷ refusal.DeviceGone ∷ refusal.NotOwner ∷
-    refusal.NoLocation ∷ refusal.NotPrepared ∷ refusal.AfterSkip ∷ refusal.TooShort ∷ refusal.WrongTarget ∷
-    refusal.NoRoutine ∷ refusal.BadStatus ∷ refusal.CancelRoutineSet ∷ refusal.AlreadyCancelled ∷
-    refusal.InFlight ∷ refusal.StillAttached ∷ refusal.SameStack ∷ refusal.TooDeep ∷ refusal.Full ∷
-    refusal.NothingAttached ∷ refusal.NotDrained ∷ refusal.BadSize ∷ refusal.BadMajor ∷ refusal.NoDriver ∷
-    refusal.Ended ∷ refusal.HistoryFull ∷ refusal.NoLock ∷ refusal.SlotHeld ∷ refusal.NotSlotHeld ∷ []
 
 -- a refusal by its name
 abbrev pub refusal_at : Data → Option Refusal

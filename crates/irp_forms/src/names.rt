@@ -9,7 +9,7 @@ ghost use Rattle.irp_forms.specs.Names as spec;
 ghost use Rattle.irp_forms.specs.Found.{cancel_rule_found, refusal_found, rule_found};
 
 use crate::from_value::FromValue;
-use irp_types::{CancelRule, Refusal, Rule};
+use irp_types::{CancelRule, Refusal, Rule, every_refusal, refusal_name};
 use serde_json::Value;
 
 /// A value that a text names.
@@ -162,72 +162,11 @@ impl HasName for Refusal {
 
     ghost found = { refusal_found };
 
-    #[tactic(auto, unfolding(crate::specs::Names::refusals))]
     fn all() -> &'static [Self] {
-        &[
-            Refusal::NoIrp,
-            Refusal::Stale,
-            Refusal::NoDevice,
-            Refusal::DeviceGone,
-            Refusal::NotOwner,
-            Refusal::NoLocation,
-            Refusal::NotPrepared,
-            Refusal::AfterSkip,
-            Refusal::TooShort,
-            Refusal::WrongTarget,
-            Refusal::NoRoutine,
-            Refusal::BadStatus,
-            Refusal::CancelRoutineSet,
-            Refusal::AlreadyCancelled,
-            Refusal::InFlight,
-            Refusal::StillAttached,
-            Refusal::SameStack,
-            Refusal::TooDeep,
-            Refusal::Full,
-            Refusal::NothingAttached,
-            Refusal::NotDrained,
-            Refusal::BadSize,
-            Refusal::BadMajor,
-            Refusal::NoDriver,
-            Refusal::Ended,
-            Refusal::HistoryFull,
-            Refusal::NoLock,
-            Refusal::SlotHeld,
-            Refusal::NotSlotHeld,
-        ]
+        every_refusal()
     }
 
     fn name(self) -> &'static str {
-        match self {
-            Refusal::NoIrp => "NoIrp",
-            Refusal::Stale => "Stale",
-            Refusal::NoDevice => "NoDevice",
-            Refusal::DeviceGone => "DeviceGone",
-            Refusal::NotOwner => "NotOwner",
-            Refusal::NoLocation => "NoLocation",
-            Refusal::NotPrepared => "NotPrepared",
-            Refusal::AfterSkip => "AfterSkip",
-            Refusal::TooShort => "TooShort",
-            Refusal::WrongTarget => "WrongTarget",
-            Refusal::NoRoutine => "NoRoutine",
-            Refusal::BadStatus => "BadStatus",
-            Refusal::CancelRoutineSet => "CancelRoutineSet",
-            Refusal::AlreadyCancelled => "AlreadyCancelled",
-            Refusal::InFlight => "InFlight",
-            Refusal::StillAttached => "StillAttached",
-            Refusal::SameStack => "SameStack",
-            Refusal::TooDeep => "TooDeep",
-            Refusal::Full => "Full",
-            Refusal::NothingAttached => "NothingAttached",
-            Refusal::NotDrained => "NotDrained",
-            Refusal::BadSize => "BadSize",
-            Refusal::BadMajor => "BadMajor",
-            Refusal::NoDriver => "NoDriver",
-            Refusal::Ended => "Ended",
-            Refusal::HistoryFull => "HistoryFull",
-            Refusal::NoLock => "NoLock",
-            Refusal::SlotHeld => "SlotHeld",
-            Refusal::NotSlotHeld => "NotSlotHeld",
-        }
+        refusal_name(self)
     }
 }

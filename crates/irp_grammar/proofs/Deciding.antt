@@ -1,34 +1,18 @@
 -- The derived tests of equality of what a script has decide it: each is true exactly where its two values are equal.
-use Rattle.std.proofs.Common.{rules, Bool, ℕ, ◌≡◌}
+use Rattle.std.proofs.Common.{rules, Bool, ◌≡◌, refl}
+use Rattle.std.specs.Cmp.Lexicographic.{pointwise}
+use Rattle.std.proofs.lemmas.Slice.Eq.{slice_eq-Decides}
 use Rattle.std.specs.Bool.{Decides}
 use Rattle.std.specs.Cmp.{booleans_Decides, unsigned_Decides}
-use Rattle.irp_types.proofs.Deciding.{also, cancel, device, driver, empty, end, fields, irp, last, lock, option, or}
+use Rattle.irp_types.proofs.Deciding.{also, cancel, empty, end, fields, irp, last, option, or}
 use Rattle.irp_types.proofs.Deciding.{refusal, rule}
 use Rattle.irp_types.proofs.Deciding.{setting, status, variants}
-use Rattle.std.specs.contracts.prelude.U32PartialEq.TheImpl as u32_eq
-use denote.Builtin.{u32}
-use Rattle.irp_script_reader.specs.declared.act.Named.{Named}
-use Rattle.irp_types.specs.declared.call.Call.{Call}
 use Rattle.irp_types.specs.contracts.answer.Replacement as a_replacement
 use Rattle.irp_types.specs.contracts.answer.ReplacementPartialEq.TheImpl as replacement_eq
 use Rattle.irp_types.specs.contracts.answer.CancelAnswer as a_cancel_answer
 use Rattle.irp_types.specs.contracts.answer.CancelAnswerPartialEq.TheImpl as cancel_answer_eq
-use Rattle.irp_types.specs.contracts.answer.Plan as a_plan
-use Rattle.irp_types.specs.contracts.answer.PlanPartialEq.TheImpl as plan_eq
-use Rattle.irp_types.specs.contracts.call.Call as a_call
-use Rattle.irp_types.specs.contracts.call.CallPartialEq.TheImpl as call_eq
-use Rattle.irp_types.specs.contracts.call.Party as a_party
-use Rattle.irp_types.specs.contracts.call.PartyPartialEq.TheImpl as party_eq
-use Rattle.irp_types.specs.contracts.seat_act.LockAct as a_lock_act
-use Rattle.irp_types.specs.contracts.seat_act.LockActPartialEq.TheImpl as lock_act_eq
-use Rattle.irp_types.specs.contracts.seat_act.Hand as a_hand
-use Rattle.irp_types.specs.contracts.seat_act.HandPartialEq.TheImpl as hand_eq
 use Rattle.irp_script_reader.specs.contracts.act.Named as what_is_named
 use Rattle.irp_script_reader.specs.contracts.act.NamedPartialEq.TheImpl as named_eq
-use Rattle.irp_script_reader.specs.contracts.act.StepAct as a_step_act
-use Rattle.irp_script_reader.specs.contracts.act.StepActPartialEq.TheImpl as step_act_eq
-use Rattle.irp_script_reader.specs.contracts.act.Step as a_step
-use Rattle.irp_script_reader.specs.contracts.act.StepPartialEq.TheImpl as step_eq
 use Rattle.irp_script_reader.specs.contracts.condition.AnswerWordPartialEq.TheImpl as answer_word_eq
 use Rattle.irp_script_reader.specs.contracts.condition.ExpectedAnswer as an_expected_answer
 use Rattle.irp_script_reader.specs.contracts.condition.ExpectedAnswerPartialEq.TheImpl as expected_answer_eq
@@ -40,6 +24,14 @@ use Rattle.irp_script_reader.specs.contracts.script.CompletionRoutine as a_compl
 use Rattle.irp_script_reader.specs.contracts.script.CompletionRoutinePartialEq.TheImpl as completion_eq
 use Rattle.irp_script_reader.specs.contracts.script.ScriptForm as a_form
 use Rattle.irp_script_reader.specs.contracts.script.ScriptFormPartialEq.TheImpl as form_eq
+use Rattle.irp_names.specs.contracts.step_names.ActPartialEq.TheImpl as act_eq
+use Rattle.irp_names.specs.contracts.plan_kinds.PlanKindPartialEq.TheImpl as kind_eq
+use Rattle.irp_grammar.specs.contracts.step_line.Value as a_value
+use Rattle.irp_grammar.specs.contracts.step_line.ValuePartialEq.TheImpl as value_eq
+use Rattle.irp_grammar.specs.contracts.step_line.StepLine as a_step
+use Rattle.irp_grammar.specs.contracts.step_line.StepLinePartialEq.TheImpl as step_eq
+use Rattle.irp_grammar.specs.contracts.step_line.PlanLine as a_plan
+use Rattle.irp_grammar.specs.contracts.step_line.PlanLinePartialEq.TheImpl as plan_eq
 
 -- the test is true exactly where its two values are equal
 abbrev Tells : {A : Type 0} → (A → A → Bool) → Type 0
@@ -62,50 +54,27 @@ form = variants a_form.enum (or empty (or (last unsigned_Decides) (or (last unsi
 pub cancel_answer : Tells cancel_answer_eq.eq-value.it
 cancel_answer = variants a_cancel_answer.enum (or (last unsigned_Decides) (or empty end))
 
-pub plan : Tells plan_eq.eq-value.it
-plan =
-    variants a_plan.enum
-    (or (also status (last unsigned_Decides)) (or (last (option cancel)) (or empty (or empty
-    (or (last (option setting)) (or (last (option setting)) end))))))
-
 -- ---- steps
 
 named : Tells named_eq.eq-value.it
 named = variants what_is_named.enum (or (last unsigned_Decides) (or (last irp) end))
 
-lock_act : Tells lock_act_eq.eq-value.it
-lock_act =
-    variants a_lock_act.enum
-    (or (also lock (last unsigned_Decides)) (or (also lock (last unsigned_Decides))
-    (or (also lock (last unsigned_Decides)) (or (last lock) end))))
+value : Tells value_eq.eq-value.it
+value =
+    variants a_value.enum
+    (or empty (or empty (or empty (or (last unsigned_Decides) (or (last named) (or (last setting) end))))))
 
-hand : Tells hand_eq.eq-value.it
-hand = fields a_hand.struct a_hand.the_propositions (also lock (also unsigned_Decides (last unsigned_Decides)))
+values : Tells (pointwise value_eq.eq-value.it)
+values one other = slice_eq-Decides value one other _ refl
 
-party : Tells party_eq.eq-value.it
-party = variants a_party.enum (or empty (or (last device) end))
+act : Tells act_eq.eq-value.it
+act one other = search rules
 
--- the test of two calls that name their packets as a step does
-abbrev same_call : Call Named ℕ → Call Named ℕ → Bool
-same_call = (call_eq.eq-value what_is_named.the_row u32 named_eq.ghosts named_eq.dict u32_eq.ghosts u32_eq.dict).it
+kind : Tells kind_eq.eq-value.it
+kind one other = search rules
 
-call : Tells same_call
-call =
-    variants (a_call.enum what_is_named.the_row u32)
-    (or (also driver (last lock)) (or (also device (last device)) (or (last device) (or (last device)
-    (or (last unsigned_Decides) (or (last named) (or (also named (last status))
-    (or (also party (also named (also unsigned_Decides (last unsigned_Decides)))) (or (also party (last named))
-    (or (also party (last named)) (or (also party (also named (last setting))) (or (also party (last named))
-    (or (also party (also named (last device)))
-    (or (also party (also named (also status (last unsigned_Decides))))
-    (or (also named (also unsigned_Decides (also status (last unsigned_Decides))))
-    (or (also party (also named (last (option cancel)))) (or (last named) (or (last named) end))))))))))))))))))
-
-step_act : Tells step_act_eq.eq-value.it
-step_act =
-    variants a_step_act.enum
-    (or (last call) (or (also unsigned_Decides (last unsigned_Decides)) (or (last lock_act) (or (last hand)
-    (or (also unsigned_Decides (last named)) (or (last unsigned_Decides) (or (last unsigned_Decides) end)))))))
+pub plan : Tells plan_eq.eq-value.it
+plan = fields a_plan.struct a_plan.the_propositions (also kind (last values))
 
 answer_word : Tells answer_word_eq.eq-value.it
 answer_word one other = search rules
@@ -123,4 +92,5 @@ condition =
 
 pub step : Tells step_eq.eq-value.it
 step =
-    fields a_step.struct a_step.the_propositions (also unsigned_Decides (also step_act (last (option condition))))
+    fields a_step.struct a_step.the_propositions
+    (also unsigned_Decides (also act (also values (last (option condition)))))

@@ -1,19 +1,29 @@
 -- The script that lines say, and what is told of it.
-use Rattle.std.specs.Prelude.{◌≡◌, ◌==◌, ℕ, Bool, true, false, List, [], map, Option, Some, None, is_some, Ok}
+use Rattle.std.specs.Prelude.{◌≡◌, ◌==◌, ℕ, Bool, true, false, List, [], ◌∷◌, ◌++◌, map, take, Option, Some, None, is_some, Ok}
 use Rattle.std.specs.Prelude.{if◌then◌else◌, string_bytes}
 use Rattle.std.specs.List.{list_any}
 use Rattle.std.specs.Option.{unwrap_or}
+use Rattle.irp_types.specs.declared.answer.Plan.{Plan}
+use Rattle.irp_types.specs.declared.answer.Plan.TheVariants as plan
 use Rattle.irp_types.specs.declared.call.Call.{Call}
 use Rattle.irp_types.specs.declared.call.Call.TheVariants as call
+use Rattle.irp_types.specs.declared.call.Party.{Party}
+use Rattle.irp_types.specs.declared.call.Party.TheVariants as party
+use Rattle.irp_types.specs.declared.names.CancelId.{CancelId}
+use Rattle.irp_types.specs.declared.routine.Setting.{Setting}
+use Rattle.irp_types.specs.declared.seat_act.LockAct.{LockAct}
 use Rattle.irp_types.specs.declared.seat_act.LockAct.TheVariants as lock_act
 use Rattle.irp_script_reader.specs.Scripts.{ReadsScript}
 use Rattle.irp_script_reader.specs.declared.{act.Named.Named, act.Step.Step, act.StepAct.StepAct}
+use Rattle.irp_script_reader.specs.declared.act.Named.TheVariants as named
 use Rattle.irp_script_reader.specs.declared.act.StepAct.TheVariants as does
 use Rattle.irp_script_reader.specs.declared.script.{ScriptForm.ScriptForm, ScriptParts.ScriptParts}
 use Rattle.irp_script_reader.specs.declared.script.ScriptForm.TheVariants as forms
+use Rattle.irp_names.specs.declared.plan_kinds.PlanKind.TheVariants as kind
 use Rattle.irp_names.specs.declared.step_names.Act.{Act}
 use Rattle.irp_names.specs.declared.step_names.Act.TheVariants as word
-use Rattle.irp_grammar.specs.declared.{step_line.StepLine.StepLine, step_line.Values.Values}
+use Rattle.irp_grammar.specs.declared.step_line.{PlanLine.PlanLine, StepLine.StepLine, Value.Value}
+use Rattle.irp_grammar.specs.declared.step_line.Value.TheVariants as value
 use Rattle.irp_grammar.specs.declared.{cursor.WordsFault.WordsFault, law.Told.Told, law.Untold.Untold, said.Said.Said}
 use Rattle.irp_grammar.specs.declared.law.Untold.TheVariants as untold
 
@@ -38,52 +48,90 @@ form_numbered number slots =
 abbrev pub form_of : Option ℕ → Option ℕ → Bool → ScriptForm
 form_of form slots hangs = form_numbered (form_number form slots hangs) (unwrap_or slots 0)
 
--- the call that a party makes on a packet's content, by the word of a step with the values of its keys; none by others
-abbrev pub party_call : Act → Values → Option (Call Named ℕ)
-party_call word.SetNext its = Some (call.SetNext its.party its.packet its.major its.word)
-party_call word.CopyToNext its = Some (call.CopyToNext its.party its.packet)
-party_call word.Skip its = Some (call.Skip its.party its.packet)
-party_call word.MarkPending its = Some (call.MarkPending its.party its.packet)
-party_call word.SetRoutine its = Some (call.SetRoutine its.party its.packet its.setting)
-party_call word.CallDriver its = Some (call.CallDriver its.party its.packet its.device)
-party_call word.Complete its = Some (call.Complete its.party its.packet its.status its.information)
-party_call word.SetCancelRoutine its = Some (call.SetCancelRoutine its.party its.packet its.cancel)
-party_call others its = None
+-- a party; a cancel routine or null, and a setting or null
+abbrev pub party_value : Party → Value
+party_value party.Originator = value.Originator
+party_value (party.Device device) = value.Number device.0
 
--- what the other words do; the last of them is `finish_taken`
-abbrev pub other_act : Act → Values → StepAct
-other_act word.CreateDevice its = does.Call (call.CreateDevice its.driver its.lock)
-other_act word.Attach its = does.Call (call.Attach its.device its.to)
-other_act word.Detach its = does.Call (call.Detach its.device)
-other_act word.Delete its = does.Call (call.Delete its.device)
-other_act word.Allocate its = does.Allocate its.size its.label
-other_act word.Free its = does.Call (call.Free its.packet)
-other_act word.Cancel its = does.Call (call.Cancel its.packet)
-other_act word.Look its = does.Call (call.Look its.packet)
-other_act word.Reuse its = does.Call (call.Reuse its.packet its.status)
-other_act word.Acquire its = does.OnLock (lock_act.Acquire its.lock its.tag)
-other_act word.Release its = does.OnLock (lock_act.Release its.lock its.tag)
-other_act word.BeginRemove its = does.OnLock (lock_act.BeginRemove its.lock its.tag)
-other_act word.Drained its = does.OnLock (lock_act.Drained its.lock)
-other_act word.Hand its = does.Hand (record { lock = its.lock; tag = its.tag; to = its.seat })
-other_act word.Publish its = does.Publish its.slot its.packet
-other_act word.Withdraw its = does.Withdraw its.slot
-other_act word.Request its = does.Request its.slot
-other_act others its = does.Call (call.FinishTaken its.packet its.slot its.status its.information)
+abbrev pub cancel_value : Option CancelId → Value
+cancel_value (Some id) = value.Number id.0
+cancel_value None = value.Null
 
--- what a step does that is a call of a party, or else something other
-abbrev pub act_of : Option (Call Named ℕ) → StepAct → StepAct
-act_of (Some made) other = does.Call made
-act_of None other = other
+abbrev pub set_value : Option Setting → Value
+set_value (Some setting) = value.Set setting
+set_value None = value.Null
 
--- the step of a line
-abbrev pub step_of : StepLine → Step
-step_of line =
+-- no values; these and then none, six in all
+abbrev pub none : List Value
+none = value.Absent ∷ value.Absent ∷ value.Absent ∷ value.Absent ∷ value.Absent ∷ value.Absent ∷ []
+
+abbrev pub six : List Value → List Value
+six its = take 6 (its ++ none)
+
+-- what a call is said as: its word, and the values of its keys, in their order. No script has a call that allocates: what
+-- it allocates has a label.
+abbrev pub call_said : Call Named ℕ → Act × List Value
+call_said (call.CreateDevice driver lock) = (word.CreateDevice, six (value.Number driver.0 ∷ value.Number lock.0 ∷ []))
+call_said (call.Attach device to) = (word.Attach, six (value.Number device.0 ∷ value.Number to.0 ∷ []))
+call_said (call.Detach lower) = (word.Detach, six (value.Number lower.0 ∷ []))
+call_said (call.Delete device) = (word.Delete, six (value.Number device.0 ∷ []))
+call_said (call.Free irp) = (word.Free, six (value.Packet irp ∷ []))
+call_said (call.Cancel irp) = (word.Cancel, six (value.Packet irp ∷ []))
+call_said (call.Look irp) = (word.Look, six (value.Packet irp ∷ []))
+call_said (call.Reuse irp status) = (word.Reuse, six (value.Packet irp ∷ value.Number status.0 ∷ []))
+call_said (call.FinishTaken irp slot status information) =
+    (word.FinishTaken, six (value.Packet irp ∷ value.Number slot ∷ value.Number status.0 ∷ value.Number information ∷ []))
+call_said (call.Allocate size) = (word.Allocate, six (value.Number size ∷ []))
+call_said (call.SetNext by irp major its) =
+    (word.SetNext, six (party_value by ∷ value.Packet irp ∷ value.Number major ∷ value.Number its ∷ []))
+call_said (call.CopyToNext by irp) = (word.CopyToNext, six (party_value by ∷ value.Packet irp ∷ []))
+call_said (call.Skip by irp) = (word.Skip, six (party_value by ∷ value.Packet irp ∷ []))
+call_said (call.MarkPending by irp) = (word.MarkPending, six (party_value by ∷ value.Packet irp ∷ []))
+call_said (call.SetRoutine by irp setting) =
+    (word.SetRoutine, six (party_value by ∷ value.Packet irp ∷ value.Set setting ∷ []))
+call_said (call.CallDriver by irp target) =
+    (word.CallDriver, six (party_value by ∷ value.Packet irp ∷ value.Number target.0 ∷ []))
+call_said (call.Complete by irp status information) =
+    (word.Complete, six (party_value by ∷ value.Packet irp ∷ value.Number status.0 ∷ value.Number information ∷ []))
+call_said (call.SetCancelRoutine by irp cancel) =
+    (word.SetCancelRoutine, six (party_value by ∷ value.Packet irp ∷ cancel_value cancel ∷ []))
+
+-- what an act on a remove lock is said as
+abbrev pub lock_act_said : LockAct → Act × List Value
+lock_act_said (lock_act.Acquire lock tag) = (word.Acquire, six (value.Number lock.0 ∷ value.Number tag ∷ []))
+lock_act_said (lock_act.Release lock tag) = (word.Release, six (value.Number lock.0 ∷ value.Number tag ∷ []))
+lock_act_said (lock_act.BeginRemove lock tag) = (word.BeginRemove, six (value.Number lock.0 ∷ value.Number tag ∷ []))
+lock_act_said (lock_act.Drained lock) = (word.Drained, six (value.Number lock.0 ∷ []))
+
+-- what a step is said as
+abbrev pub act_said : StepAct → Act × List Value
+act_said (does.Call made) = call_said made
+act_said (does.Allocate size label) = (word.Allocate, six (value.Number size ∷ value.Packet (named.Label label) ∷ []))
+act_said (does.OnLock on) = lock_act_said on
+act_said (does.Hand hand) = (word.Hand, six (value.Number hand.lock.0 ∷ value.Number hand.tag ∷ value.Number hand.to ∷ []))
+act_said (does.Publish slot irp) = (word.Publish, six (value.Number slot ∷ value.Packet irp ∷ []))
+act_said (does.Withdraw slot) = (word.Withdraw, six (value.Number slot ∷ []))
+act_said (does.Request slot) = (word.Request, six (value.Number slot ∷ []))
+
+-- the line of a step
+abbrev pub line_of : Step → StepLine
+line_of step =
     record {
-      seat = line.seat;
-      act = act_of (party_call line.act line.values) (other_act line.act line.values);
-      condition = line.condition;
+      seat = step.seat;
+      act = (act_said step.act).0;
+      values = (act_said step.act).1;
+      condition = step.condition;
     }
+
+-- what a plan is said as, and its line
+abbrev pub plan_line : Plan → PlanLine
+plan_line (plan.Finish status information) =
+    record { kind = kind.Finish; values = six (value.Number status.0 ∷ value.Number information ∷ []) }
+plan_line (plan.Hold cancel) = record { kind = kind.Hold; values = six (cancel_value cancel ∷ []) }
+plan_line plan.HoldSlot = record { kind = kind.HoldSlot; values = none }
+plan_line plan.Skip = record { kind = kind.Skip; values = none }
+plan_line (plan.Forward set) = record { kind = kind.Forward; values = six (set_value set ∷ []) }
+plan_line (plan.ForwardPend set) = record { kind = kind.ForwardPend; values = six (set_value set ∷ []) }
 
 -- the script is what the lines say, member by member in order; one seat and one lock where they say nothing of them
 pub record Says (said : Said) (script : ScriptParts) : Type 0 where
@@ -92,10 +140,10 @@ pub record Says (said : Said) (script : ScriptParts) : Type 0 where
   pub locks : script.locks ≡ unwrap_or said.locks 1
   pub completions : script.completions ≡ said.completions.items
   pub cancels : script.cancels ≡ said.cancels.items
-  pub dispatches : script.dispatches ≡ said.dispatches.items
+  pub dispatches : said.dispatches.items ≡ map plan_line script.dispatches
   pub drivers : script.drivers ≡ said.drivers.items
-  pub setup : script.setup ≡ map step_of said.setup.items
-  pub steps : script.steps ≡ map step_of said.steps.items
+  pub setup : said.setup.items ≡ map line_of script.setup
+  pub steps : said.steps.items ≡ map line_of script.steps
 
 -- the JSON is read as this script, which is what the lines say; and they have no fault
 pub record TellsScript (said : Said) (told : Told) : Type 0 where

@@ -2,15 +2,13 @@
 //! docs/FORMATS.md).
 
 use crate::cursor::Cursor;
-use crate::members::take_status;
-use crate::names::Kind;
 use crate::said::Said;
 use crate::wanted::Wanted;
 use crate::written::Written;
 use irp_forms::{HasName, named};
-use irp_names::Act;
+use irp_names::{Act, Part};
 use irp_script_reader::{AnswerWord, Condition, ExpectedAnswer};
-use irp_types::{CancelId, Refusal};
+use irp_types::{CancelId, Refusal, Status};
 
 /// The words of the answers that have no value.
 pub static ANSWERS: [(&str, ExpectedAnswer); 20] = [
@@ -77,7 +75,7 @@ impl<'a> Said<'a> {
         if Act::named(text).is_some() || text == "stack" {
             return ExpectedAnswer::AnyRoutine;
         }
-        match self.names.number(Kind::Cancel, text) {
+        match self.names.short(Part::Cancel, text) {
             Some(number) => {
                 words.pass();
                 ExpectedAnswer::Previous(Some(CancelId(number)))
@@ -95,8 +93,8 @@ impl<'a> Said<'a> {
             words.pass();
             return Some(answer);
         }
-        match take_status(words) {
-            Some(status) => Some(ExpectedAnswer::Status(status)),
+        match self.short(Part::Status, words) {
+            Some(status) => Some(ExpectedAnswer::Status(Status(status))),
             None => words.fails(Wanted::Answer),
         }
     }
@@ -106,7 +104,7 @@ impl<'a> Said<'a> {
         if !words.takes("if") {
             return Some(None);
         }
-        let step = self.number(Kind::Step, words)?;
+        let step = self.short(Part::Step, words)?;
         if !words.takes("is") {
             return words.fails(Wanted::Is);
         }

@@ -1,7 +1,6 @@
 //! Scripts in words: a text with a step on each line, and the JSON of the script that it says.
 #![tactic(auto)]
 
-mod act;
 mod condition;
 mod cursor;
 mod law;
@@ -16,10 +15,10 @@ mod step_line;
 mod steps;
 mod to_json;
 mod to_words;
+mod values;
 mod wanted;
 mod written;
 
-pub use act::{Key, keys_of};
 pub use cursor::{WordsFault, fault_lines};
 pub use law::{Told, Untold, json};
 pub use read::read_lines;

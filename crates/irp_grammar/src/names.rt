@@ -1,31 +1,18 @@
 //! The names that a text gives, each for a number from its line on.
 
 use crate::numbers::{begins_with_digit, number_in};
+use irp_names::{Part, major_named, minor_named, status_named};
 use irp_types::{RoutineId, Rule};
 use std::alloc::{AllocError, Global};
 
-/// What has a name. Each kind has names of its own.
-#[derive(Clone, Copy, PartialEq, Eq)]
-pub enum Kind {
-    Device,
-    Driver,
-    Dispatch,
-    Routine,
-    Cancel,
-    Lock,
-    Slot,
-    Seat,
-    Step,
-}
-
-/// A name and what it stands for.
+/// A name and what it stands for. Each part has names of its own.
 #[derive(Clone, Copy)]
 pub struct Name<'a> {
-    pub kind: Kind,
+    pub part: Part,
     pub text: &'a str,
     /// The number, of a completion routine that within its rule.
     pub number: u32,
-    /// The rule of a completion routine; of no meaning for other kinds.
+    /// The rule of a completion routine; of no meaning for other parts.
     pub rule: Rule,
 }
 
@@ -47,15 +34,34 @@ pub fn is_label(text: &str) -> bool {
 }
 
 /// The device that a word such as D2 names.
-fn device_in(text: &str) -> Option<u32> {
-    number_below(text.strip_prefix('D')?)
+fn device_in(text: &str) -> Option<u64> {
+    number_up_to(Part::Device.most(), text.strip_prefix('D')?)
 }
 
-/// The number below 2^32 that a word is.
-pub fn number_below(text: &str) -> Option<u32> {
-    match u32::try_from(number_in(text)?) {
-        Ok(number) => Some(number),
-        Err(_) => None,
+/// The number that a word is, where it isn't above this.
+pub fn number_up_to(most: u64, text: &str) -> Option<u64> {
+    match number_in(text) {
+        Some(number) if number <= most => Some(number),
+        _ => None,
+    }
+}
+
+/// The number of such a part that has this name in Windows.
+fn number_named(part: Part, text: &str) -> Option<u64> {
+    match part {
+        Part::Status => Some(u64::from(status_named(text)?.0)),
+        Part::Major => Some(u64::from(major_named(text)?)),
+        Part::Word => minor_named(text),
+        _ => None,
+    }
+}
+
+/// The part whose names a part has.
+pub fn named_as(part: Part) -> Part {
+    match part {
+        Part::Party => Part::Device,
+        Part::CancelOrNull | Part::CancelOrEnd => Part::Cancel,
+        other => other,
     }
 }
 
@@ -98,38 +104,44 @@ impl<'a> Names<'a> {
         self.labels.as_slice()
     }
 
-    /// What the word names of this kind.
-    fn find(&self, kind: Kind, text: &str) -> Option<Name<'a>> {
+    /// What the word names of such a part.
+    fn find(&self, part: Part, text: &str) -> Option<Name<'a>> {
         for name in self.names.iter() {
-            if name.kind == kind && name.text == text {
+            if name.part == part && name.text == text {
                 return Some(*name);
             }
         }
         None
     }
 
-    /// Whether the word is a name of this kind.
-    pub fn has(&self, kind: Kind, text: &str) -> bool {
-        self.find(kind, text).is_some()
+    /// Whether the word is a name of such a part.
+    pub fn has(&self, part: Part, text: &str) -> bool {
+        self.find(part, text).is_some()
     }
 
-    /// The number of this kind that a word is, by its digits or by its name; of a device also as D2.
-    pub fn number(&self, kind: Kind, text: &str) -> Option<u32> {
+    /// The number of such a part that a word is, by its digits or by a name; of a device also as D2.
+    pub fn number(&self, part: Part, text: &str) -> Option<u64> {
         if begins_with_digit(text) {
-            return number_below(text);
+            return number_up_to(part.most(), text);
         }
-        if let Some(name) = self.find(kind, text) {
-            return Some(name.number);
+        match (self.find(named_as(part), text), named_as(part)) {
+            (Some(name), _) => Some(u64::from(name.number)),
+            (None, Part::Device) => device_in(text),
+            (None, other) => number_named(other, text),
         }
-        match kind {
-            Kind::Device => device_in(text),
-            _ => None,
+    }
+
+    /// The same for a part whose numbers are below 2^32.
+    pub fn short(&self, part: Part, text: &str) -> Option<u32> {
+        match u32::try_from(self.number(part, text)?) {
+            Ok(number) => Some(number),
+            Err(_) => None,
         }
     }
 
     /// The completion routine that has this name.
     pub fn routine(&self, text: &str) -> Option<RoutineId> {
-        let name = self.find(Kind::Routine, text)?;
+        let name = self.find(Part::Routine, text)?;
         Some(RoutineId {
             rule: name.rule,
             no: name.number,

@@ -1,10 +1,9 @@
 //! What may be meant by a word.
 
-use crate::act::keys_of;
 use crate::condition::ANSWERS;
-use crate::names::{Kind, Names};
+use crate::names::{Names, named_as};
 use crate::wanted::Wanted;
-use irp_names::{Act, major_name, minor_at, plan_names, rule_names, status_names};
+use irp_names::{Act, Part, PlanKind, major_name, minor_at, rule_names, status_names};
 use std::alloc::{AllocError, Global};
 use strsim::levenshtein;
 
@@ -27,12 +26,12 @@ fn words_at(wanted: Wanted) -> (&'static [&'static str], bool) {
     match wanted {
         Wanted::Heading => (&[], true),
         Wanted::Rule => (rule_names(), true),
-        Wanted::Routine => (rule_names(), false),
+        Wanted::Of(Part::Routine) => (rule_names(), false),
         Wanted::Behaviour => (&["continue", "keep", "replace"], false),
         Wanted::CancelAnswer => (&["finish", "leave"], true),
-        Wanted::Plan => (plan_names(), true),
-        Wanted::Party => (&["originator"], false),
-        Wanted::Cancel => (&["none"], false),
+        Wanted::Plan => (&[], true),
+        Wanted::Of(Part::Party) => (&["originator"], false),
+        Wanted::Of(Part::CancelOrNull) => (&["none"], false),
         Wanted::Act => (&["seat", "stack", "if"], true),
         Wanted::Is => (&["is"], false),
         Wanted::Answer => (&["routine", "not"], false),
@@ -41,28 +40,18 @@ fn words_at(wanted: Wanted) -> (&'static [&'static str], bool) {
     }
 }
 
-/// The kind of which a name may stand where this was expected.
-fn kind_at(wanted: Wanted) -> Option<Kind> {
-    match wanted {
-        Wanted::Of(kind) => Some(kind),
-        Wanted::Routine => Some(Kind::Routine),
-        Wanted::Party => Some(Kind::Device),
-        Wanted::Cancel => Some(Kind::Cancel),
-        _ => None,
-    }
-}
-
 /// The name with this number, from 0, of those that may stand where this was expected: of a status, of a function code,
-/// of a step or of a key.
+/// of a step, of a plan or of a key.
 fn name_at(wanted: Wanted, number: u8) -> Option<&'static str> {
     let place = usize::from(number);
     match wanted {
-        Wanted::Status => Some(status_names().get(place)?.1),
-        Wanted::Major => major_name(number),
-        Wanted::Minor => minor_at(place),
+        Wanted::Of(Part::Status) => Some(status_names().get(place)?.1),
+        Wanted::Of(Part::Major) => major_name(number),
+        Wanted::Of(Part::Word) => minor_at(place),
         Wanted::Act => Some(Act::at(place)?.word()),
+        Wanted::Plan => Some(PlanKind::at(place)?.word()),
         Wanted::Answer => answer_at(place),
-        Wanted::Key(act) => Some(keys_of(act).get(place)?.word()),
+        Wanted::Key(act) => Some(act.keys().get(place)?.0),
         _ => None,
     }
 }
@@ -87,14 +76,14 @@ fn add_names(found: &mut Vec<&str>, wanted: Wanted) -> Result<(), AllocError> {
     Ok(())
 }
 
-/// Appends the names of a kind that a text gave.
+/// Appends the names of such a part that a text gave.
 fn add_given<'a>(
     found: &mut Vec<&'a str>,
-    kind: Kind,
+    part: Part,
     names: &Names<'a>,
 ) -> Result<(), AllocError> {
     for name in names.names() {
-        if name.kind == kind {
+        if name.part == part {
             found.push(name.text)?;
         }
     }
@@ -110,8 +99,8 @@ fn known<'a>(alloc: Global, wanted: Wanted, names: &Names<'a>) -> Result<Vec<&'a
     if headings {
         found.extend_from_slice(HEADINGS)?;
     }
-    if let Some(kind) = kind_at(wanted) {
-        add_given(&mut found, kind, names)?;
+    if let Wanted::Of(part) = wanted {
+        add_given(&mut found, named_as(part), names)?;
     }
     Ok(found)
 }

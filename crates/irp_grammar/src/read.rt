@@ -4,10 +4,10 @@ ghost use Rattle.std.specs.Prelude.{[], ◌<◌, ◌≢◌, IfOk, IsUtf8, length
 
 use crate::cursor::{Cursor, Word, WordsFault};
 use crate::members::count_of;
-use crate::names::{Kind, number_below};
 use crate::numbers::begins_with_digit;
 use crate::said::{MOST_FAULTS, Said};
 use crate::wanted::Wanted;
+use irp_names::Part;
 use irp_script_reader::Section;
 use std::alloc::{AllocError, Global};
 
@@ -73,22 +73,22 @@ fn split<'a>(line: &'a str, words: &mut Vec<Word<'a>>) -> Result<usize, AllocErr
 }
 
 /// What is counted in a section, where that has a count.
-fn counted(section: Section) -> Option<Kind> {
+fn counted(section: Section) -> Option<Part> {
     match section {
-        Section::Seats => Some(Kind::Seat),
-        Section::Locks => Some(Kind::Lock),
-        Section::Slots => Some(Kind::Slot),
+        Section::Seats => Some(Part::Seat),
+        Section::Locks => Some(Part::Lock),
+        Section::Slots => Some(Part::Slot),
         _ => None,
     }
 }
 
 impl<'a> Said<'a> {
     /// Gives as many names as words are left to the numbers from 0 on, and gives their count.
-    fn take_names(&mut self, kind: Kind, words: &mut Cursor<'a, '_>) -> Option<u32> {
+    fn take_names(&mut self, part: Part, words: &mut Cursor<'a, '_>) -> Option<u32> {
         let count = count_of(words.left());
         for number in 0..count {
             if let Some(text) = words.peek() {
-                self.name(kind, text, number, words)?;
+                self.name(part, text, number, words)?;
                 words.pass();
             }
         }
@@ -96,14 +96,14 @@ impl<'a> Said<'a> {
     }
 
     /// The count that the rest of a line is: a number, or as many names as there are.
-    fn take_count(&mut self, kind: Kind, words: &mut Cursor<'a, '_>) -> Option<u32> {
+    fn take_count(&mut self, part: Part, words: &mut Cursor<'a, '_>) -> Option<u32> {
         let Some(first) = words.peek() else {
             return words.fails(Wanted::Count);
         };
         if begins_with_digit(first) {
-            words.taken(number_below(first), Wanted::Number32)
+            self.short(Part::Tag, words)
         } else {
-            self.take_names(kind, words)
+            self.take_names(part, words)
         }
     }
 
@@ -117,7 +117,7 @@ impl<'a> Said<'a> {
         }
         self.place(section, &begin)?;
         let number = match counted(section) {
-            Some(kind) => self.take_count(kind, words)?,
+            Some(part) => self.take_count(part, words)?,
             None => words.taken(form_in(words.text()), Wanted::Form)?,
         };
         match section {

@@ -4,12 +4,13 @@ ghost use Rattle.std.specs.Prelude.{◌≡◌};
 ghost use Rattle.irp_grammar.specs.Saying.{form_number, have_conditions};
 
 use crate::cursor::{Cursor, WordsFault};
-use crate::names::{Kind, Name, Names, is_name};
+use crate::names::{Name, Names, is_name};
 use crate::near::hint;
-use crate::step_line::StepLine;
+use crate::step_line::{PlanLine, StepLine};
 use crate::wanted::{StepFault, Wanted};
-use irp_script_reader::{CompletionRoutine, Condition, ScriptRefusal, Section, StepAct};
-use irp_types::{CancelAnswer, DispatchId, Known, Plan, Row, Rule};
+use irp_names::{Act, Part};
+use irp_script_reader::{CompletionRoutine, Condition, ScriptRefusal, Section};
+use irp_types::{CancelAnswer, DispatchId, Known, Row, Rule};
 use std::alloc::{AllocError, Global};
 
 /// How many faults of a text are told at most.
@@ -33,7 +34,7 @@ pub struct Said<'a> {
     pub slots: Option<u32>,
     pub completions: Vec<CompletionRoutine>,
     pub cancels: Vec<CancelAnswer>,
-    pub dispatches: Vec<Plan>,
+    pub dispatches: Vec<PlanLine>,
     pub drivers: Vec<Row<(u8, DispatchId)>>,
     pub setup: Vec<StepLine>,
     pub steps: Vec<StepLine>,
@@ -104,27 +105,33 @@ impl<'a> Said<'a> {
         self.place_of(section, 0).is_some()
     }
 
-    /// The number of this kind that the next word is.
-    pub fn number(&self, kind: Kind, words: &mut Cursor<'_, '_>) -> Option<u32> {
-        let read = self.names.number(kind, words.text());
-        words.taken(read, Wanted::Of(kind))
+    /// The number of such a part that the next word is.
+    pub fn number(&self, part: Part, words: &mut Cursor<'_, '_>) -> Option<u64> {
+        let read = self.names.number(part, words.text());
+        words.taken(read, Wanted::Of(part))
+    }
+
+    /// The same for a part whose numbers are below 2^32.
+    pub fn short(&self, part: Part, words: &mut Cursor<'_, '_>) -> Option<u32> {
+        let read = self.names.short(part, words.text());
+        words.taken(read, Wanted::Of(part))
     }
 
     /// Gives a name to a number.
     pub fn name(
         &mut self,
-        kind: Kind,
+        part: Part,
         text: &'a str,
         number: u32,
         words: &mut Cursor<'a, '_>,
     ) -> Option<()> {
-        self.name_routine(kind, text, Rule::Watch, number, words)
+        self.name_routine(part, text, Rule::Watch, number, words)
     }
 
     /// Gives a name to a number, of a completion routine within a rule.
     pub fn name_routine(
         &mut self,
-        kind: Kind,
+        part: Part,
         text: &'a str,
         rule: Rule,
         number: u32,
@@ -133,11 +140,11 @@ impl<'a> Said<'a> {
         if !is_name(text) {
             return words.fails(Wanted::Name);
         }
-        if self.names.has(kind, text) {
-            return words.fails(Wanted::NewName(kind));
+        if self.names.has(part, text) {
+            return words.fails(Wanted::NewName(part));
         }
         let name = Name {
-            kind,
+            part,
             text,
             number,
             rule,
@@ -201,11 +208,10 @@ impl<'a> Said<'a> {
             Section::Steps => self.steps.get(index)?,
             _ => return None,
         };
-        let act = line.step().act;
         if line.seat >= self.seats.unwrap_or(1) {
             return Some(StepFault::Seat);
         }
-        if section == Section::Setup && !(act.suits_setup() && line.condition.is_none()) {
+        if section == Section::Setup && !line.suits_setup() {
             return Some(StepFault::Setup);
         }
         if let Some(condition) = line.condition {
@@ -216,10 +222,10 @@ impl<'a> Said<'a> {
                 return Some(StepFault::Condition);
             }
         }
-        match act {
+        match line.act {
             _ if self.form_number() == 1 => Some(StepFault::Form),
-            StepAct::Hand(_) => Some(StepFault::Hand),
-            StepAct::Publish { .. } | StepAct::Withdraw { .. } => Some(StepFault::Slot),
+            Act::Hand => Some(StepFault::Hand),
+            Act::Publish | Act::Withdraw => Some(StepFault::Slot),
             _ => None,
         }
     }

@@ -1,10 +1,10 @@
 //! Whether a script is what lines say.
 
 ghost use Rattle.std.specs.Prelude.{◌≡◌, ◌↔◌, map, true};
-ghost use Rattle.irp_grammar.specs.Saying.{Says, form_of, have_conditions, step_of};
+ghost use Rattle.irp_grammar.specs.Saying.{Says, form_of, have_conditions, line_of, plan_line};
 
 use crate::said::Said;
-use crate::step_line::StepLine;
+use crate::step_line::{PlanLine, StepLine, line_of, plan_line};
 use irp_script_reader::{CompletionRoutine, ScriptForm, ScriptParts, Step};
 use irp_types::{CancelAnswer, DispatchId, Plan, Row};
 
@@ -24,13 +24,6 @@ fn are_completions(one: &[CompletionRoutine], other: &[CompletionRoutine]) -> bo
 
 /// Whether two lists have equal answers of cancel routines in the same order.
 fn are_cancels(one: &[CancelAnswer], other: &[CancelAnswer]) -> bool
-    ensures { (result ≡ true) ↔ (one.now ≡ other.now) }
-{
-    one == other
-}
-
-/// Whether two lists have equal plans in the same order.
-fn are_plans(one: &[Plan], other: &[Plan]) -> bool
     ensures { (result ≡ true) ↔ (one.now ≡ other.now) }
 {
     one == other
@@ -58,8 +51,30 @@ fn are_drivers(one: &[Row<(u8, DispatchId)>], other: &[Row<(u8, DispatchId)>]) -
     true
 }
 
-/// Whether two steps are equal.
-fn is_step(one: Step, other: Step) -> bool
+/// Whether two lines of plans are equal.
+fn is_plan(one: PlanLine, other: PlanLine) -> bool
+    ensures { (result ≡ true) ↔ (one ≡ other) }
+{
+    one == other
+}
+
+/// Whether the plans are those of the lines, in order.
+fn are_plans(lines: &[PlanLine], plans: &[Plan]) -> bool
+    ensures { (result ≡ true) ↔ (lines.now ≡ map plan_line plans.now) }
+{
+    if lines.len() != plans.len() {
+        return false;
+    }
+    for place in 0..lines.len() {
+        if !is_plan(lines[place], plan_line(plans[place])) {
+            return false;
+        }
+    }
+    true
+}
+
+/// Whether two lines of steps are equal.
+fn is_step(one: StepLine, other: StepLine) -> bool
     ensures { (result ≡ true) ↔ (one ≡ other) }
 {
     one == other
@@ -67,13 +82,13 @@ fn is_step(one: Step, other: Step) -> bool
 
 /// Whether the steps are those of the lines, in order.
 fn are_steps(lines: &[StepLine], steps: &[Step]) -> bool
-    ensures { (result ≡ true) ↔ (steps.now ≡ map step_of lines.now) }
+    ensures { (result ≡ true) ↔ (lines.now ≡ map line_of steps.now) }
 {
     if lines.len() != steps.len() {
         return false;
     }
     for place in 0..lines.len() {
-        if !is_step(steps[place], lines[place].step()) {
+        if !is_step(lines[place], line_of(steps[place])) {
             return false;
         }
     }
@@ -101,7 +116,7 @@ pub fn says(said: &Said<'_>, parts: &ScriptParts) -> bool
         && parts.locks == said.locks.unwrap_or(1)
         && are_completions(parts.completions.as_slice(), said.completions.as_slice())
         && are_cancels(parts.cancels.as_slice(), said.cancels.as_slice())
-        && are_plans(parts.dispatches.as_slice(), said.dispatches.as_slice())
+        && are_plans(said.dispatches.as_slice(), parts.dispatches.as_slice())
         && are_drivers(parts.drivers.as_slice(), said.drivers.as_slice())
         && are_steps(said.setup.as_slice(), parts.setup.as_slice())
         && are_steps(said.steps.as_slice(), parts.steps.as_slice())

@@ -1,75 +1,37 @@
-//! A step as its line says it: its word, and the values of its keys.
+//! Steps and plans as their lines say them: a word, and values in the order of the word's keys or parts.
 
 ghost use Rattle.std.specs.Prelude.{◌≡◌};
-ghost use Rattle.irp_grammar.specs.Saying.{other_act, party_call, step_of};
+ghost use Rattle.irp_grammar.specs.Saying as spec;
 
-use irp_names::Act;
+use Value::{Absent, Number, Packet, Set};
+use irp_names::{Act, PlanKind, StepPlace};
 use irp_script_reader::{Condition, Named, Step, StepAct};
-use irp_types::{
-    Call, CancelId, DeviceId, DriverId, Hand, LockAct, LockNo, Party, RoutineId, Rule, Setting,
-    Status,
-};
+use irp_types::{Call, CancelId, Hand, LockAct, Party, Plan, Setting};
 
-/// The values of a step's keys. Those that its word doesn't have are 0, or the originator, or none.
-#[derive(Clone, Copy)]
-pub struct Values {
-    pub driver: DriverId,
-    pub lock: LockNo,
-    /// The device of `device`, `lower` or `target`.
-    pub device: DeviceId,
-    /// The device on whose stack another is put.
-    pub to: DeviceId,
-    pub size: u8,
-    /// The place of the label among those of the text.
-    pub label: usize,
-    pub packet: Named,
-    pub party: Party,
-    pub major: u8,
-    pub word: u64,
-    pub status: Status,
-    pub setting: Setting,
-    pub information: u64,
-    pub cancel: Option<CancelId>,
-    pub tag: u32,
-    /// The seat to which a reference is handed.
-    pub seat: u32,
-    pub slot: u32,
+/// What stands under a key of a step, or behind the name of a plan.
+#[derive(Clone, Copy, PartialEq, Eq)]
+pub enum Value {
+    /// Nothing: there is no such key.
+    Absent,
+    /// Null, for no cancel routine and for no setting.
+    Null,
+    /// The originator.
+    Originator,
+    /// A number: of what has numbers, and of a device as a party.
+    Number(u64),
+    /// A packet, or a label, which has this place among those of the text.
+    Packet(Named),
+    Set(Setting),
 }
 
-impl Values {
-    /// No values.
-    pub const NONE: Values = Values {
-        driver: DriverId(0),
-        lock: LockNo(0),
-        device: DeviceId(0),
-        to: DeviceId(0),
-        size: 0,
-        label: 0,
-        packet: Named::Label(0),
-        party: Party::Originator,
-        major: 0,
-        word: 0,
-        status: Status::SUCCESS,
-        setting: Setting {
-            routine: RoutineId {
-                rule: Rule::Watch,
-                no: 0,
-            },
-            context: 0,
-            on_success: false,
-            on_error: false,
-            on_cancel: false,
-        },
-        information: 0,
-        cancel: None,
-        tag: 0,
-        seat: 0,
-        slot: 0,
-    };
-}
+/// The values of a step's keys, or of a plan's parts, in their order: up to six.
+pub type Values = [Value; 6];
+
+/// No values.
+pub const NONE: Values = [Absent, Absent, Absent, Absent, Absent, Absent];
 
 /// A step: its seat, its word, the values of its keys, and what it hangs on.
-#[derive(Clone, Copy)]
+#[derive(Clone, Copy, PartialEq, Eq)]
 pub struct StepLine {
     pub seat: u32,
     pub act: Act,
@@ -78,115 +40,161 @@ pub struct StepLine {
 }
 
 impl StepLine {
-    /// The step that a script has for it.
-    pub fn step(self) -> Step
-        ensures { result ≡ step_of self }
-    {
-        let act = match self.party_call() {
-            Some(call) => StepAct::Call(call),
-            None => self.other_act(),
-        };
-        Step {
-            seat: self.seat,
-            act,
-            condition: self.condition,
-        }
+    /// Whether setup may have it.
+    pub fn suits_setup(&self) -> bool {
+        self.act.place() == StepPlace::Anywhere && self.condition.is_none()
     }
+}
 
-    /// What it does, where that isn't a party's call on a packet's content.
-    fn other_act(self) -> StepAct
-        ensures { result ≡ other_act self.act self.values }
-    {
-        let Values {
-            driver,
-            lock,
-            device,
-            to,
-            size,
-            label,
-            packet: irp,
-            status,
-            information,
-            tag,
-            seat,
-            slot,
-            ..
-        } = self.values;
-        match self.act {
-            Act::CreateDevice => StepAct::Call(Call::CreateDevice { driver, lock }),
-            Act::Attach => StepAct::Call(Call::Attach { device, to }),
-            Act::Detach => StepAct::Call(Call::Detach { lower: device }),
-            Act::Delete => StepAct::Call(Call::Delete { device }),
-            Act::Allocate => StepAct::Allocate { size, label },
-            Act::Free => StepAct::Call(Call::Free { irp }),
-            Act::Cancel => StepAct::Call(Call::Cancel { irp }),
-            Act::Look => StepAct::Call(Call::Look { irp }),
-            Act::Reuse => StepAct::Call(Call::Reuse { irp, status }),
-            Act::Acquire => StepAct::OnLock(LockAct::Acquire { lock, tag }),
-            Act::Release => StepAct::OnLock(LockAct::Release { lock, tag }),
-            Act::BeginRemove => StepAct::OnLock(LockAct::BeginRemove { lock, tag }),
-            Act::Drained => StepAct::OnLock(LockAct::Drained { lock }),
-            Act::Hand => StepAct::Hand(Hand {
-                lock,
-                tag,
-                to: seat,
-            }),
-            Act::Publish => StepAct::Publish { slot, irp },
-            Act::Withdraw => StepAct::Withdraw { slot },
-            Act::Request => StepAct::Request { slot },
-            _ => StepAct::Call(Call::FinishTaken {
-                irp,
-                token: slot,
-                status,
-                information,
-            }),
-        }
-    }
+/// A plan: its kind, and what follows its name.
+#[derive(Clone, Copy, PartialEq, Eq)]
+pub struct PlanLine {
+    pub kind: PlanKind,
+    pub values: Values,
+}
 
-    /// The call that a party makes on a packet's content; none where it does something else.
-    fn party_call(self) -> Option<Call<Named, u32>>
-        ensures { result ≡ party_call self.act self.values }
-    {
-        let Values {
-            device,
-            packet: irp,
-            party,
-            major,
-            word,
-            status,
-            setting,
-            information,
-            cancel,
-            ..
-        } = self.values;
-        Some(match self.act {
-            Act::SetNext => Call::SetNext {
-                party,
-                irp,
-                major,
-                word,
-            },
-            Act::CopyToNext => Call::CopyToNext { party, irp },
-            Act::Skip => Call::Skip { party, irp },
-            Act::MarkPending => Call::MarkPending { party, irp },
-            Act::SetRoutine => Call::SetRoutine {
-                party,
-                irp,
-                setting,
-            },
-            Act::CallDriver => Call::CallDriver {
-                party,
-                irp,
-                target: device,
-            },
-            Act::Complete => Call::Complete {
-                party,
-                irp,
-                status,
-                information,
-            },
-            Act::SetCancelRoutine => Call::SetCancelRoutine { party, irp, cancel },
-            _ => return None,
-        })
+/// A party.
+fn party_value(party: Party) -> Value
+    ensures { result ≡ spec.party_value party }
+{
+    match party {
+        Party::Originator => Value::Originator,
+        Party::Device(device) => Number(u64::from(device.0)),
     }
+}
+
+/// A cancel routine, or null.
+fn cancel_value(cancel: Option<CancelId>) -> Value
+    ensures { result ≡ spec.cancel_value cancel }
+{
+    match cancel {
+        Some(id) => Number(u64::from(id.0)),
+        None => Value::Null,
+    }
+}
+
+/// A setting, or null.
+fn set_value(set: Option<Setting>) -> Value
+    ensures { result ≡ spec.set_value set }
+{
+    match set {
+        Some(setting) => Set(setting),
+        None => Value::Null,
+    }
+}
+
+/// The value that a field is said as, by what it holds.
+macro_rules! value {
+    (id $field:ident) => { Number(u64::from($field.0)) };
+    (short $field:ident) => { Number(u64::from($field)) };
+    (long $field:ident) => { Number($field) };
+    (packet $field:ident) => { Packet($field) };
+    (label $field:ident) => { Packet(Named::Label($field)) };
+    (party $field:ident) => { party_value($field) };
+    (cancel $field:ident) => { cancel_value($field) };
+    (setting $field:ident) => { Set($field) };
+    (set $field:ident) => { set_value($field) };
+}
+
+/// The first six.
+macro_rules! six {
+    ($a:expr, $b:expr, $c:expr, $d:expr, $e:expr, $f:expr $(, $more:expr)*) => { [$a, $b, $c, $d, $e, $f] };
+}
+
+/// The values that fields are said as, each by what it holds.
+macro_rules! values {
+    ($($field:ident $holds:ident)*) => {
+        six!($(value!($holds $field),)* Absent, Absent, Absent, Absent, Absent, Absent)
+    };
+}
+
+/// What a value of an enum is said as: the word that has its variant's name, and its fields, each with what it holds, in
+/// the order of the word's keys or parts. A row each.
+macro_rules! said {
+    ($given:ident $of:ident $word:ident; $($name:ident { $($field:ident $holds:ident)* })*) => {
+        match $given {
+            $($of::$name { $($field),* } => ($word::$name, values!($($field $holds)*)),)*
+        }
+    };
+}
+
+/// What a call is said as. No script has one that allocates: what it allocates has a label.
+fn call_said(call: Call<Named, u32>) -> (Act, Values)
+    ensures { result ≡ spec.call_said call }
+{
+    said!(call Call Act;
+        CreateDevice { driver id lock id }
+        Attach { device id to id }
+        Detach { lower id }
+        Delete { device id }
+        Allocate { size short }
+        Free { irp packet }
+        Reuse { irp packet status id }
+        SetNext { party party irp packet major short word long }
+        CopyToNext { party party irp packet }
+        Skip { party party irp packet }
+        SetRoutine { party party irp packet setting setting }
+        MarkPending { party party irp packet }
+        CallDriver { party party irp packet target id }
+        Complete { party party irp packet status id information long }
+        FinishTaken { irp packet token short status id information long }
+        SetCancelRoutine { party party irp packet cancel cancel }
+        Cancel { irp packet }
+        Look { irp packet }
+    )
+}
+
+/// What an act on a remove lock is said as.
+fn lock_act_said(on: LockAct) -> (Act, Values)
+    ensures { result ≡ spec.lock_act_said on }
+{
+    said!(on LockAct Act;
+        Acquire { lock id tag short }
+        Release { lock id tag short }
+        BeginRemove { lock id tag short }
+        Drained { lock id }
+    )
+}
+
+/// What a step is said as: its word, and the values of its keys.
+fn act_said(act: StepAct) -> (Act, Values)
+    ensures { result ≡ spec.act_said act }
+{
+    match act {
+        StepAct::Call(call) => call_said(call),
+        StepAct::Allocate { size, label } => (Act::Allocate, values!(size short label label)),
+        StepAct::OnLock(on) => lock_act_said(on),
+        StepAct::Hand(Hand { lock, tag, to }) => (Act::Hand, values!(lock id tag short to short)),
+        StepAct::Publish { slot, irp } => (Act::Publish, values!(slot short irp packet)),
+        StepAct::Withdraw { slot } => (Act::Withdraw, values!(slot short)),
+        StepAct::Request { slot } => (Act::Request, values!(slot short)),
+    }
+}
+
+/// The line of a step.
+pub fn line_of(step: Step) -> StepLine
+    ensures { result ≡ spec.line_of step }
+{
+    let (act, values) = act_said(step.act);
+    StepLine {
+        seat: step.seat,
+        act,
+        values,
+        condition: step.condition,
+    }
+}
+
+/// The line of a plan.
+pub fn plan_line(plan: Plan) -> PlanLine
+    ensures { result ≡ spec.plan_line plan }
+{
+    let (kind, values) = said!(plan Plan PlanKind;
+        Finish { status id information long }
+        Hold { cancel cancel }
+        HoldSlot {}
+        Skip {}
+        Forward { set set }
+        ForwardPend { set set }
+    );
+    PlanLine { kind, values }
 }

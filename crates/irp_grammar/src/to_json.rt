@@ -1,13 +1,12 @@
 //! What lines say, written as the JSON of a script.
 
-use crate::act::{Key, keys_of};
 use crate::condition::put_condition;
 use crate::said::Said;
-use crate::step_line::{StepLine, Values};
+use crate::step_line::{PlanLine, StepLine, Value};
 use crate::written::Written;
 use irp_forms::HasName;
 use irp_script_reader::{Behaviour, CompletionRoutine, Named};
-use irp_types::{CancelAnswer, CancelId, DispatchId, Party, Plan, Row, Setting};
+use irp_types::{CancelAnswer, DispatchId, Row, Setting};
 use std::alloc::{AllocError, Global};
 
 /// The letters of a setting's flags, in their order.
@@ -36,23 +35,6 @@ fn put_setting(text: &mut Written, setting: Setting) {
     text.put("]");
 }
 
-/// Writes a plan that passes the packet down, whose word is put, with its setting or null.
-fn put_forward(text: &mut Written, set: Option<Setting>) {
-    match set {
-        Some(setting) => put_setting(text, setting),
-        None => text.put("null"),
-    }
-    text.put("]");
-}
-
-/// Writes the number of a cancel routine, or null.
-fn put_cancel_id(text: &mut Written, cancel: Option<CancelId>) {
-    match cancel {
-        Some(id) => text.number(u64::from(id.0)),
-        None => text.put("null"),
-    }
-}
-
 /// Writes the words before numbers, these, and the end of their list.
 fn put_numbers(text: &mut Written, words: &str, numbers: &[u64]) {
     text.put(words);
@@ -70,31 +52,6 @@ fn put_behaviour(text: &mut Written, behaviour: Behaviour) {
             ",[\"replace\",",
             &[u64::from(put.status.0), put.information],
         ),
-    }
-}
-
-/// Writes a plan.
-fn put_plan(text: &mut Written, plan: Plan) {
-    match plan {
-        Plan::Finish {
-            status,
-            information,
-        } => put_numbers(text, "[\"finish\",", &[u64::from(status.0), information]),
-        Plan::Hold { cancel } => {
-            text.put("[\"hold\",");
-            put_cancel_id(text, cancel);
-            text.put("]");
-        }
-        Plan::HoldSlot => text.put("[\"hold_slot\"]"),
-        Plan::Skip => text.put("[\"skip\"]"),
-        Plan::Forward { set } => {
-            text.put("[\"forward\",");
-            put_forward(text, set);
-        }
-        Plan::ForwardPend { set } => {
-            text.put("[\"forward_pend\",");
-            put_forward(text, set);
-        }
     }
 }
 
@@ -116,24 +73,6 @@ fn label_at<'a>(labels: &[&'a str], place: usize) -> &'a str {
     }
 }
 
-/// The number under a key that has a number.
-fn number_of(key: Key, values: &Values) -> u64 {
-    match key {
-        Key::Driver => u64::from(values.driver.0),
-        Key::Lock => u64::from(values.lock.0),
-        Key::To => u64::from(values.to.0),
-        Key::Size => u64::from(values.size),
-        Key::Major => u64::from(values.major),
-        Key::Word => values.word,
-        Key::Status => u64::from(values.status.0),
-        Key::Information => values.information,
-        Key::Tag => u64::from(values.tag),
-        Key::ToSeat => u64::from(values.seat),
-        Key::Slot => u64::from(values.slot),
-        _ => u64::from(values.device.0),
-    }
-}
-
 /// Writes a packet, by one of these labels or by its reference.
 fn put_packet(text: &mut Written, packet: Named, labels: &[&str]) {
     match packet {
@@ -142,24 +81,27 @@ fn put_packet(text: &mut Written, packet: Named, labels: &[&str]) {
     }
 }
 
-/// Writes a party.
-fn put_party(text: &mut Written, party: Party) {
-    match party {
-        Party::Originator => text.put("\"o\""),
-        Party::Device(device) => text.number(u64::from(device.0)),
+/// Writes a value; the labels are those of the text.
+fn put_value(text: &mut Written, value: Value, labels: &[&str]) {
+    match value {
+        Value::Absent => {}
+        Value::Null => text.put("null"),
+        Value::Originator => text.quoted("o"),
+        Value::Number(number) => text.number(number),
+        Value::Packet(packet) => put_packet(text, packet, labels),
+        Value::Set(setting) => put_setting(text, setting),
     }
 }
 
-/// Writes the value of a key of a step, whose labels these are.
-fn put_value(text: &mut Written, key: Key, values: &Values, labels: &[&str]) {
-    match key {
-        Key::As => text.quoted(label_at(labels, values.label)),
-        Key::Irp => put_packet(text, values.packet, labels),
-        Key::By => put_party(text, values.party),
-        Key::Set => put_setting(text, values.setting),
-        Key::Cancel => put_cancel_id(text, values.cancel),
-        key => text.number(number_of(key, values)),
+/// Writes a plan.
+fn put_plan(text: &mut Written, plan: &PlanLine) {
+    text.put("[");
+    text.quoted(plan.kind.word());
+    for (_, value) in plan.kind.parts().iter().zip(plan.values.iter()) {
+        text.put(",");
+        put_value(text, *value, &[]);
     }
+    text.put("]");
 }
 
 /// Writes a step, whose labels these are.
@@ -168,11 +110,11 @@ fn put_step(text: &mut Written, step: &StepLine, labels: &[&str]) {
     text.number(u64::from(step.seat));
     text.put(",\"do\":");
     text.quoted(step.act.word());
-    for key in keys_of(step.act) {
+    for (key, value) in step.act.keys().iter().zip(step.values.iter()) {
         text.put(",");
-        text.quoted(key.word());
+        text.quoted(key.0);
         text.put(":");
-        put_value(text, *key, &step.values, labels);
+        put_value(text, *value, labels);
     }
     put_condition(text, step.condition);
     text.put("}");
@@ -217,10 +159,10 @@ fn put_cancels(text: &mut Written, answers: &[CancelAnswer]) {
 }
 
 /// Writes the members of a list of plans.
-fn put_plans(text: &mut Written, plans: &[Plan]) {
+fn put_plans(text: &mut Written, plans: &[PlanLine]) {
     for (at, plan) in plans.iter().enumerate() {
         text.put(before(at));
-        put_plan(text, *plan);
+        put_plan(text, plan);
     }
 }
 

@@ -1,28 +1,19 @@
 //! A script of JSON, written in words. What writes a word writes a blank before it.
 
-use crate::act::{Key, keys_of};
 use crate::condition::answer_word;
 use crate::members::{count_of, with_one};
+use crate::names::named_as;
+use crate::step_line::{PlanLine, StepLine, Value, line_of, plan_line};
 use crate::to_json::letters;
 use crate::written::Written;
-use irp_forms::{HasName, under};
-use irp_names::{Act, major_name, minor_name, status_name};
+use irp_forms::HasName;
+use irp_names::{Part, major_name, minor_name, status_name};
 use irp_script_reader::{
-    Behaviour, CompletionRoutine, Condition, ExpectedAnswer, ScriptFault, ScriptForm, ScriptParts,
-    Step, read_script,
+    Behaviour, CompletionRoutine, Condition, ExpectedAnswer, Named, ScriptFault, ScriptForm,
+    ScriptParts, Step, read_script,
 };
-use irp_types::{
-    CancelAnswer, CancelId, DispatchId, IrpRef, Known, Party, Plan, Row, Setting, Status,
-};
-use serde_json::Value;
+use irp_types::{CancelAnswer, CancelId, DispatchId, Known, Plan, Row, Setting, Status};
 use std::alloc::Global;
-
-/// How many there are of what a text names.
-#[derive(Clone, Copy)]
-struct Counts {
-    known: Known,
-    drivers: usize,
-}
 
 /// Writes a number: below ten as decimal digits, else hexadecimal.
 fn put_number(text: &mut Written, number: u64) {
@@ -103,132 +94,72 @@ fn put_behaviour(text: &mut Written, behaviour: Behaviour) {
     }
 }
 
-/// The word of a plan.
-fn plan_word(plan: Plan) -> &'static str {
-    match plan {
-        Plan::Finish { .. } => "finish",
-        Plan::Hold { .. } => "hold",
-        Plan::HoldSlot => "hold_slot",
-        Plan::Skip => "skip",
-        Plan::Forward { .. } => "forward",
-        Plan::ForwardPend { .. } => "forward_pend",
-    }
+/// What a text names: its labels, and how many there are of the rest.
+#[derive(Clone, Copy)]
+struct Around<'b> {
+    labels: &'b [String],
+    known: Known,
+    drivers: u64,
 }
 
-/// Writes what follows the word of a plan.
-fn put_plan(text: &mut Written, plan: Plan, known: Known) {
-    match plan {
-        Plan::Finish {
-            status,
-            information,
-        } => put_result(text, status, information),
-        Plan::Hold { cancel: Some(id) } => put_cancel_id(text, id, known),
-        Plan::Forward { set: Some(set) } | Plan::ForwardPend { set: Some(set) } => {
-            put_setting(text, set, known)
-        }
-        _ => {}
-    }
-}
-
-/// The text under a key, or an empty one.
-fn text_under<'b>(key: &str, step: &'b Value) -> &'b str {
-    match step.get(key) {
-        Some(value) => value.as_str().unwrap_or(""),
-        None => "",
-    }
-}
-
-/// The number under a key, or 0.
-fn number_under(key: &str, step: &Value) -> u64 {
-    match under::<u64>(key, step) {
-        Some(number) => number,
-        None => 0,
-    }
-}
-
-/// Writes the packet of a step by its label, or by its reference.
-fn put_packet(text: &mut Written, step: &Value) {
-    match under::<IrpRef>("irp", step) {
-        Some(irp) => {
+/// Writes a packet by its label, or by its reference.
+fn put_packet(text: &mut Written, packet: Named, labels: &[String]) {
+    match packet {
+        Named::Label(place) => match labels.get(place) {
+            Some(label) => put_word(text, label.as_str()),
+            None => put_word(text, ""),
+        },
+        Named::Irp(irp) => {
             put_numbered(text, " ", irp.slot as u64);
             put_numbered(text, ".", irp.use_no);
         }
-        None => put_word(text, text_under("irp", step)),
     }
 }
 
-/// Writes the party of a step.
-fn put_party(text: &mut Written, step: &Value) {
-    match under::<Party>("by", step) {
-        Some(Party::Device(device)) => put_numbered(text, " D", u64::from(device.0)),
-        _ => text.put(" o"),
+/// The name in Windows of a number that is such a part; behind a major function code that of a minor one.
+fn name_of(part: Part, before: Value, number: u64) -> Option<&'static str> {
+    match (part, before) {
+        (Part::Status, _) => status_name(Status(u32::try_from(number).ok()?)),
+        (Part::Major, _) => major_name(u8::try_from(number).ok()?),
+        (Part::Word, Value::Number(major)) => minor_name(u8::try_from(major).ok()?, number),
+        _ => None,
     }
 }
 
-/// The name of the minor function code that a step sets, where it has one.
-fn minor_of(step: &Value) -> Option<&'static str> {
-    minor_name(under::<u8>("major", step)?, number_under("word", step))
-}
-
-/// Writes the word that a step sets.
-fn put_minor(text: &mut Written, step: &Value) {
-    match minor_of(step) {
-        Some(name) => put_word(text, name),
-        None => put_number(text, number_under("word", step)),
-    }
-}
-
-/// Writes the cancel routine that a step sets.
-fn put_cancel(text: &mut Written, step: &Value, known: Known) {
-    match under::<CancelId>("cancel", step) {
-        Some(id) => put_cancel_id(text, id, known),
-        None => text.put(" none"),
-    }
-}
-
-/// What stands before the number that a step has under a key.
-fn before_number(key: Key, number: u64, drivers: usize) -> &'static str {
-    match key {
-        Key::Device | Key::To | Key::Lower | Key::Target => " D",
-        Key::Driver if number < drivers as u64 => " driver_",
+/// What stands before a decimal number that is such a part.
+fn before_number(part: Part, number: u64, around: Around<'_>) -> &'static str {
+    match named_as(part) {
+        Part::Device => " D",
+        Part::Driver if number < around.drivers => " driver_",
+        Part::Cancel if number < u64::from(around.known.cancel) => " cancel_",
         _ => " ",
     }
 }
 
-/// Writes the number that a step has under a key.
-fn put_number_under(text: &mut Written, key: Key, step: &Value, drivers: usize) {
-    let number = number_under(key.word(), step);
-    if key == Key::Information {
-        put_number(text, number);
-    } else {
-        put_numbered(text, before_number(key, number, drivers), number);
+/// Writes a number that is such a part, and has no name in Windows.
+fn put_unnamed(text: &mut Written, part: Part, number: u64, around: Around<'_>) {
+    match part {
+        Part::Status => {
+            text.put(" ");
+            text.hexadecimal(number);
+        }
+        Part::Word | Part::Information => put_number(text, number),
+        _ => put_numbered(text, before_number(part, number, around), number),
     }
 }
 
-/// Writes the value of a key of a step.
-fn put_value(text: &mut Written, key: Key, step: &Value, counts: Counts) {
-    match key {
-        Key::As => put_word(text, text_under("as", step)),
-        Key::Irp => put_packet(text, step),
-        Key::Word => put_minor(text, step),
-        Key::By => put_party(text, step),
-        Key::Cancel => put_cancel(text, step, counts.known),
-        Key::Major => {
-            if let Some(major) = under::<u8>("major", step) {
-                put_major(text, major);
-            }
-        }
-        Key::Status => {
-            if let Some(status) = under::<Status>("status", step) {
-                put_status(text, status);
-            }
-        }
-        Key::Set => {
-            if let Some(set) = under::<Setting>("set", step) {
-                put_setting(text, set, counts.known);
-            }
-        }
-        _ => put_number_under(text, key, step, counts.drivers),
+/// Writes a value that is such a part, behind another.
+fn put_value(text: &mut Written, part: Part, before: Value, value: Value, around: Around<'_>) {
+    match value {
+        Value::Originator => text.put(" o"),
+        Value::Null if part == Part::CancelOrNull => text.put(" none"),
+        Value::Absent | Value::Null => {}
+        Value::Packet(packet) => put_packet(text, packet, around.labels),
+        Value::Set(setting) => put_setting(text, setting, around.known),
+        Value::Number(number) => match name_of(part, before, number) {
+            Some(name) => put_word(text, name),
+            None => put_unnamed(text, part, number, around),
+        },
     }
 }
 
@@ -262,52 +193,46 @@ fn is_named(steps: &[Step], place: usize) -> bool {
     })
 }
 
+/// Writes what the word of a step is followed by: its keys with their values.
+fn put_keys(text: &mut Written, line: &StepLine, around: Around<'_>) {
+    let mut before = Value::Absent;
+    for (key, value) in line.act.keys().iter().zip(line.values.iter()) {
+        put_word(text, key.0);
+        put_value(text, key.1, before, *value, around);
+        before = *value;
+    }
+}
+
 /// Writes a step, on a line. Those of this list are the script's, where it may hang on one of them.
-fn put_step(text: &mut Written, step: &Value, place: usize, steps: &[Step], counts: Counts) {
-    let Some(act) = Act::named(text_under("do", step)) else {
-        return;
-    };
+fn put_step(text: &mut Written, step: Step, place: usize, steps: &[Step], around: Around<'_>) {
+    let line = line_of(step);
     text.put("  ");
     if is_named(steps, place) {
         put_numbered(text, "step_", place as u64);
         text.put(": ");
     }
-    put_numbered(text, "seat ", number_under("seat", step));
-    if let Some(
-        Step {
-            condition: Some(condition),
-            ..
-        },
-    ) = steps.get(place)
-    {
-        put_condition(text, *condition, counts.known);
+    put_numbered(text, "seat ", u64::from(line.seat));
+    if let Some(condition) = line.condition {
+        put_condition(text, condition, around.known);
     }
-    put_word(text, act.word());
-    for key in keys_of(act) {
-        put_word(text, key.word());
-        put_value(text, *key, step, counts);
-    }
+    put_word(text, line.act.word());
+    put_keys(text, &line, around);
     text.put("\n");
 }
 
-/// The steps under a key; none where none stand there.
-fn steps_under<'b>(key: &str, whole: &'b Value) -> &'b [Value] {
-    match whole.get(key) {
-        Some(Value::Array(steps)) => steps.as_slice(),
-        _ => &[],
+/// Writes steps, below their heading. Those of the last list may hang on one another.
+fn put_steps(
+    text: &mut Written,
+    heading: &str,
+    steps: &[Step],
+    hanging: &[Step],
+    around: Around<'_>,
+) {
+    if !steps.is_empty() {
+        text.put(heading);
     }
-}
-
-/// Writes steps, below their heading, which is this key.
-fn put_steps(text: &mut Written, key: &str, forms: &[Value], steps: &[Step], counts: Counts) {
-    if forms.is_empty() {
-        return;
-    }
-    text.put("\n");
-    text.put(key);
-    text.put("\n");
-    for (place, form) in forms.iter().enumerate() {
-        put_step(text, form, place, steps, counts);
+    for (place, step) in steps.iter().enumerate() {
+        put_step(text, *step, place, hanging, around);
     }
 }
 
@@ -363,14 +288,21 @@ fn put_cancels(text: &mut Written, answers: &[CancelAnswer]) {
     }
 }
 
+/// Writes a plan, behind its made-up name.
+fn put_plan(text: &mut Written, plan: PlanLine, around: Around<'_>) {
+    put_word(text, plan.kind.word());
+    for (part, value) in plan.kind.parts().iter().zip(plan.values.iter()) {
+        put_value(text, *part, Value::Absent, *value, around);
+    }
+    text.put("\n");
+}
+
 /// Writes the plans of the dispatches, below their heading.
-fn put_plans(text: &mut Written, plans: &[Plan], known: Known) {
+fn put_plans(text: &mut Written, plans: &[Plan], around: Around<'_>) {
     for (at, plan) in plans.iter().enumerate() {
-        let word = plan_word(*plan);
-        put_name(text, at, "\ndispatches\n", word, at as u64);
-        put_word(text, word);
-        put_plan(text, *plan, known);
-        text.put("\n");
+        let line = plan_line(*plan);
+        put_name(text, at, "\ndispatches\n", line.kind.word(), at as u64);
+        put_plan(text, line, around);
     }
 }
 
@@ -378,7 +310,7 @@ fn put_plans(text: &mut Written, plans: &[Plan], known: Known) {
 fn put_dispatch(text: &mut Written, id: DispatchId, plans: &[Plan]) {
     text.put(" ");
     if let Some(plan) = plans.get(id.0 as usize) {
-        text.put(plan_word(*plan));
+        text.put(plan_line(*plan).kind.word());
         text.put("_");
     }
     text.number(u64::from(id.0));
@@ -417,25 +349,28 @@ fn put_top(text: &mut Written, parts: &ScriptParts) {
 }
 
 /// Writes a script in words.
-fn put_script(text: &mut Written, parts: &ScriptParts, whole: &Value) {
+fn put_script(text: &mut Written, parts: &ScriptParts) {
     put_top(text, parts);
     let known = put_completions(text, parts.completions.as_slice());
     let plans = parts.dispatches.as_slice();
-    let cancel = count_of(parts.cancels.as_slice().len());
-    let known = Known { cancel, ..known };
-    put_cancels(text, parts.cancels.as_slice());
-    put_plans(text, plans, known);
-    put_drivers(text, parts.drivers.as_slice(), plans);
-    let counts = Counts {
-        known,
-        drivers: parts.drivers.as_slice().len(),
+    let around = Around {
+        labels: parts.labels.as_slice(),
+        known: Known {
+            cancel: count_of(parts.cancels.as_slice().len()),
+            ..known
+        },
+        drivers: parts.drivers.as_slice().len() as u64,
     };
-    put_steps(text, "setup", steps_under("setup", whole), &[], counts);
+    put_cancels(text, parts.cancels.as_slice());
+    put_plans(text, plans, around);
+    put_drivers(text, parts.drivers.as_slice(), plans);
+    put_steps(text, "\nsetup\n", parts.setup.as_slice(), &[], around);
+    let steps = parts.steps.as_slice();
     let hanging = match parts.form {
-        ScriptForm::Three { .. } => parts.steps.as_slice(),
+        ScriptForm::Three { .. } => steps,
         _ => &[],
     };
-    put_steps(text, "steps", steps_under("steps", whole), hanging, counts);
+    put_steps(text, "\nsteps\n", steps, hanging, around);
 }
 
 /// The script of this JSON in words, with names made up for its routines, dispatches and drivers (docs/WORDS.md).
@@ -445,11 +380,8 @@ fn put_script(text: &mut Written, parts: &ScriptParts, whole: &Value) {
 /// As `read_script` has them.
 pub fn words(alloc: Global, bytes: &[u8]) -> Result<String, ScriptFault> {
     let script = read_script(alloc, bytes)?;
-    let Ok(whole) = Value::from_slice(alloc, bytes) else {
-        return Err(ScriptFault::NoMemory);
-    };
     let mut text = Written::new(alloc);
-    put_script(&mut text, script.parts(), &whole);
+    put_script(&mut text, script.parts());
     match text.ended() {
         Ok(text) => Ok(text),
         Err(_) => Err(ScriptFault::NoMemory),

@@ -1,9 +1,8 @@
 //! What was expected in the place of a word.
 
-use crate::act::keys_of;
-use crate::names::Kind;
+use crate::names::named_as;
 use crate::written::Written;
-use irp_names::Act;
+use irp_names::{Act, Part};
 use irp_script_reader::{MemberFault, ScriptRefusal, Section};
 
 /// What was expected in the place of a word (this project's own rule).
@@ -19,29 +18,13 @@ pub enum Wanted {
     FormTwo,
     /// A count, or names.
     Count,
-    /// A number below 2^64.
-    Number,
-    /// A number below 2^32.
-    Number32,
-    /// A number below 256.
-    Number8,
-    /// A number or name of this kind.
-    Of(Kind),
+    /// What such a part may be.
+    Of(Part),
     Rule,
-    /// A rule, or the name of a completion routine.
-    Routine,
     Flags,
     Behaviour,
     CancelAnswer,
     Plan,
-    Major,
-    /// A number, or a minor function code.
-    Minor,
-    Status,
-    Party,
-    Packet,
-    Label,
-    Cancel,
     /// `is`, behind a step on which another hangs.
     Is,
     /// An answer on which a step hangs.
@@ -54,8 +37,8 @@ pub enum Wanted {
     StackLock,
     /// A word that may be a name.
     Name,
-    /// A name of this kind that no line above gave.
-    NewName(Kind),
+    /// A name of such a part that no line above gave.
+    NewName(Part),
     /// The end of the line.
     Nothing,
     /// Not so long a text.
@@ -103,18 +86,52 @@ fn step_reason(fault: StepFault) -> &'static str {
     }
 }
 
-/// The word for a kind.
-fn kind_word(kind: Kind) -> &'static str {
-    match kind {
-        Kind::Device => "device",
-        Kind::Driver => "driver",
-        Kind::Dispatch => "dispatch",
-        Kind::Routine => "completion routine",
-        Kind::Cancel => "cancel routine",
-        Kind::Lock => "remove lock",
-        Kind::Slot => "cancel slot",
-        Kind::Seat => "seat",
-        Kind::Step => "step",
+/// The word for what has names.
+fn part_word(part: Part) -> &'static str {
+    match named_as(part) {
+        Part::Device => "device",
+        Part::Driver => "driver",
+        Part::Dispatch => "dispatch",
+        Part::Routine => "completion routine",
+        Part::Cancel => "cancel routine",
+        Part::Lock => "remove lock",
+        Part::Slot => "cancel slot",
+        Part::Seat => "seat",
+        _ => "step",
+    }
+}
+
+/// What a part may be in words; nothing where it may be a number or a name.
+fn part_words(part: Part) -> &'static str {
+    match part {
+        Part::Device => "a device: D and its number, or a name that a line above gives",
+        Part::Routine => {
+            "a completion routine: a rule and a number, or a name that a line above gives"
+        }
+        Part::Tag => "a number below 2^32",
+        Part::Size => "a number from 0 to 255",
+        Part::Information => "a number below 2^64",
+        Part::Major =>
+            "a major function code: a name such as IRP_MJ_READ, or a number from 0 to 255",
+        Part::Word => "a number below 2^64, or a name such as IRP_MN_START_DEVICE",
+        Part::Status => "a status: a name such as STATUS_SUCCESS, or a number below 2^32",
+        Part::Party => "a party: o for the originator, or a device",
+        Part::Packet => "a packet: its label, or its slot, a point and its use number",
+        Part::Label => "a label: 1 to 32 letters, digits or underscores",
+        Part::CancelOrNull => "a cancel routine: a number, a name that a line above gives, or none",
+        _ => "",
+    }
+}
+
+/// Puts what a part may be.
+fn put_part(text: &mut Written, part: Part) {
+    match part_words(part) {
+        "" => {
+            text.put("a ");
+            text.put(part_word(part));
+            text.put(": a number, or a name that a line above gives");
+        }
+        words => text.put(words),
     }
 }
 
@@ -129,25 +146,11 @@ impl Wanted {
             Wanted::Form => "1, 2 or 3",
             Wanted::FormTwo => "form 2 or 3, which have slots",
             Wanted::Count => "a number, or names",
-            Wanted::Number => "a number below 2^64",
-            Wanted::Number32 => "a number below 2^32",
-            Wanted::Number8 => "a number from 0 to 255",
             Wanted::Rule => "a rule: watch, change, keeper, keep_on_error or free",
-            Wanted::Routine => {
-                "a completion routine: a rule and a number, or a name that a line above gives"
-            }
             Wanted::Flags => "flags: some of s, e and c in this order, or -",
             Wanted::Behaviour => "a behaviour: continue, keep or replace",
             Wanted::CancelAnswer => "finish or leave",
             Wanted::Plan => "a plan: finish, hold, hold_slot, skip, forward or forward_pend",
-            Wanted::Major =>
-                "a major function code: a name such as IRP_MJ_READ, or a number from 0 to 255",
-            Wanted::Minor => "a number below 2^64, or a name such as IRP_MN_START_DEVICE",
-            Wanted::Status => "a status: a name such as STATUS_SUCCESS, or a number below 2^32",
-            Wanted::Party => "a party: o for the originator, or a device",
-            Wanted::Packet => "a packet: its label, or its slot, a point and its use number",
-            Wanted::Label => "a label: 1 to 32 letters, digits or underscores",
-            Wanted::Cancel => "a cancel routine: a number, a name that a line above gives, or none",
             Wanted::Is => "is",
             Wanted::Answer => {
                 "an answer: success, refused, routine, none, true, false, done, a word such as taken or yes, \
@@ -162,8 +165,6 @@ impl Wanted {
             Wanted::Nothing => "the end of the line",
             Wanted::Shorter => "a text of at most 1,048,576 bytes",
             Wanted::Utf8 => "UTF-8",
-            Wanted::Of(Kind::Device) =>
-                "a device: D and its number, or a name that a line above gives",
             Wanted::Of(_)
             | Wanted::Key(_)
             | Wanted::NewName(_)
@@ -175,15 +176,10 @@ impl Wanted {
     /// Puts what was expected.
     pub fn write(self, text: &mut Written) {
         match self {
-            Wanted::Of(Kind::Device) => text.put(self.words()),
-            Wanted::Of(kind) => {
+            Wanted::Of(part) => put_part(text, part),
+            Wanted::NewName(part) => {
                 text.put("a ");
-                text.put(kind_word(kind));
-                text.put(": a number, or a name that a line above gives");
-            }
-            Wanted::NewName(kind) => {
-                text.put("a ");
-                text.put(kind_word(kind));
+                text.put(part_word(part));
                 text.put(" name that no line above gives");
             }
             Wanted::Key(act) => put_keys(text, act),
@@ -207,9 +203,9 @@ fn put_keys(text: &mut Written, act: Act) {
     text.put("a key of ");
     text.put(act.word());
     text.put(", each once:");
-    for key in keys_of(act) {
+    for key in act.keys() {
         text.put(" ");
-        text.put(key.word());
+        text.put(key.0);
     }
 }
 

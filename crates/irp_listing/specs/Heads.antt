@@ -1,10 +1,10 @@
 -- The first line of an entry's block, in words.
-use Rattle.std.specs.Prelude.{ℕ, Bool, true, false, not, List, [], ◌++◌, codes, length, ◌==◌, if◌then◌else◌}
+use Rattle.std.specs.Prelude.{ℕ, Bool, true, false, is_some, not, List, [], ◌++◌, codes, length, ◌==◌, if◌then◌else◌}
 use Rattle.std.specs.Fmt.{decimal}
 use Rattle.std.specs.Option.{option_map_or}
-use Rattle.irp_types.specs.Calls.{Call}
+use Rattle.irp_types.specs.Calls.{Call, packet_completed}
 use Rattle.irp_types.specs.declared.asked.Asked.{Asked}
-use Rattle.irp_types.specs.declared.call.Call.TheVariants.{CallDriver, Complete, FinishTaken, Cancel}
+use Rattle.irp_types.specs.declared.call.Call.TheVariants.{CallDriver, Cancel}
 use Rattle.irp_types.specs.declared.call.Party.{Party}
 use Rattle.irp_types.specs.declared.entry.Entry.{Entry}
 use Rattle.irp_types.specs.declared.refusal.Refusal.{Refusal}
@@ -24,10 +24,8 @@ caller_text call drained =
 -- the call sends or completes its packet; a Cancel does where it asked somebody
 abbrev pub sends : Call → List Asked → Bool
 sends (CallDriver party irp target) asked = true
-sends (Complete party irp status information) asked = true
-sends (FinishTaken irp token status information) asked = true
 sends (Cancel irp) asked = not (length asked == 0)
-sends _ asked = false
+sends call asked = is_some (packet_completed call)
 
 -- where an outcome is told below, the reply is told there
 abbrev pub unless_sent : Entry → List ℕ

@@ -1,5 +1,5 @@
 -- The state that a manager is in, and what a call makes of it.
-use Rattle.std.specs.Prelude.{ℕ, ◌≡◌, ◌*◌, Bool, true, false, List, Option, is_some}
+use Rattle.std.specs.Prelude.{ℕ, ◌≡◌, ◌*◌, Bool, true, false, if◌then◌else◌, List, Option, is_some}
 use Rattle.std.specs.FinMap as fin
 use Rattle.irp_types.specs.Limits.{most_locations}
 use Rattle.irp_types.specs.State.{StateValue, Fixed, Tables, packet_of}
@@ -7,8 +7,8 @@ use Rattle.irp_types.specs.Descent.{StaysUp}
 use Rattle.irp_types.specs.Steps.{Step}
 use Rattle.irp_types.specs.Standing.{StandingFacts}
 use Rattle.irp_types.specs.declared.asked.Asked.{Asked}
-use Rattle.irp_types.specs.Calls.{Call}
-use Rattle.irp_types.specs.declared.call.Call.TheVariants.{Allocate, Free, CallDriver, Complete, FinishTaken, Cancel}
+use Rattle.irp_types.specs.Calls.{Call, packet_completed}
+use Rattle.irp_types.specs.declared.call.Call.TheVariants.{Allocate, Free, CallDriver, Cancel}
 use Rattle.irp_types.specs.declared.call.Party.{Party}
 use Rattle.irp_types.specs.declared.names.IrpRef.{IrpRef}
 use Rattle.irp_types.specs.declared.names.DeviceId.{DeviceId}
@@ -97,7 +97,5 @@ LeavesNext next old call reply new = leaves_slots call reply ≡ true → next n
 -- how many questions a call may ask: one to each device and one to each location where it sends, completes or cancels
 abbrev pub most_asked : Call → ℕ
 most_asked (CallDriver party irp target) = 2 * most_locations
-most_asked (Complete party irp status information) = 2 * most_locations
-most_asked (FinishTaken irp token status information) = 2 * most_locations
 most_asked (Cancel irp) = 2 * most_locations
-most_asked _ = 0
+most_asked call = if is_some (packet_completed call) then 2 * most_locations else 0

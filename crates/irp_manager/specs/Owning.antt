@@ -1,6 +1,7 @@
 -- The calls that only the owner of a packet may make: why one is refused, and what it does to the packet.
-use Rattle.std.specs.Prelude.{Option, Some, None, List}
-use Rattle.irp_types.specs.Calls.{Call}
+use Rattle.std.specs.Prelude.{Option, None, List}
+use Rattle.std.specs.Option.{option_and_then, option_map}
+use Rattle.irp_types.specs.Calls.{Call, packet_named, party_named}
 use Rattle.irp_types.specs.Packet.{PacketValue, set_next_refusal, copy_to_next_refusal, mark_pending_refusal}
 use Rattle.irp_types.specs.Refusals.{leave_refusal, routine_refusal, cancel_refusal, send_refusal, complete_refusal}
 use Rattle.irp_types.specs.Stacks.{DevicesValue}
@@ -16,15 +17,8 @@ use Rattle.irp_manager.specs.Calls.{Fills, Copies, Leaves, Sets, Marks, Sends, F
 
 -- the party that makes a call as the owner of a packet, and the packet that the call names
 abbrev pub owner_named : Call → Option (Party × IrpRef)
-owner_named (SetNext party irp major word) = Some (party, irp)
-owner_named (CopyToNext party irp) = Some (party, irp)
-owner_named (Skip party irp) = Some (party, irp)
-owner_named (SetRoutine party irp setting) = Some (party, irp)
-owner_named (MarkPending party irp) = Some (party, irp)
-owner_named (CallDriver party irp target) = Some (party, irp)
-owner_named (Complete party irp status information) = Some (party, irp)
-owner_named (SetCancelRoutine party irp cancel) = Some (party, irp)
-owner_named _ = None
+owner_named call =
+    option_and_then (λ (party : Party). option_map (λ (irp : IrpRef). (party, irp)) (packet_named call)) (party_named call)
 
 -- why the owner's call is refused by its own checks, where there are so many routines, or none
 abbrev pub own_refusal : Known → DevicesValue → PacketValue → Call → Option Refusal

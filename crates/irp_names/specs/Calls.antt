@@ -1,13 +1,36 @@
 -- Calls in words.
-use Rattle.std.specs.Prelude.{ℕ, ◌==◌, Bool, true, false, List, [], ◌++◌, codes, Option, Some, None, if◌then◌else◌}
+use Rattle.std.specs.Prelude.{ℕ, ◌==◌, Bool, true, false, List, [], ◌++◌, codes, Option, if◌then◌else◌}
 use Rattle.std.specs.Fmt.{decimal}
-use Rattle.irp_types.specs.Calls.{Call}
+use Rattle.irp_types.specs.Calls.{Call, party_named}
 use Rattle.irp_types.specs.declared.call.Party.{Party}
 use Rattle.irp_types.specs.declared.call.Call.TheVariants as call
 use Rattle.irp_types.specs.declared.routine.Setting.{Setting}
+use Rattle.irp_names.specs.declared.step_names.Act.{Act}
+use Rattle.irp_names.specs.declared.step_names.Act.TheVariants as act
 use Rattle.irp_names.specs.Majors.{major_text}
 use Rattle.irp_names.specs.Small.{hex_text, packet_text, routine_text, cancel_text}
 use Rattle.irp_names.specs.Statuses.{status_text, result_text}
+
+-- the step that makes a call
+abbrev pub act_of : Call → Act
+act_of (call.CreateDevice driver lock) = act.CreateDevice
+act_of (call.Attach device to) = act.Attach
+act_of (call.Detach lower) = act.Detach
+act_of (call.Delete device) = act.Delete
+act_of (call.Allocate size) = act.Allocate
+act_of (call.Free irp) = act.Free
+act_of (call.Cancel irp) = act.Cancel
+act_of (call.Look irp) = act.Look
+act_of (call.Reuse irp status) = act.Reuse
+act_of (call.SetNext party irp major word) = act.SetNext
+act_of (call.CopyToNext party irp) = act.CopyToNext
+act_of (call.Skip party irp) = act.Skip
+act_of (call.MarkPending party irp) = act.MarkPending
+act_of (call.SetRoutine party irp setting) = act.SetRoutine
+act_of (call.CallDriver party irp target) = act.CallDriver
+act_of (call.Complete party irp status information) = act.Complete
+act_of (call.SetCancelRoutine party irp cancel) = act.SetCancelRoutine
+act_of (call.FinishTaken irp token status information) = act.FinishTaken
 
 -- the routine of Windows that a call stands for
 abbrev pub call_name : Call → List ℕ
@@ -32,15 +55,7 @@ call_name (call.Look irp) = codes "look at"
 
 -- the party that a call names, if it names one
 abbrev pub caller_of : Call → Option Party
-caller_of (call.SetNext party irp major word) = Some party
-caller_of (call.CopyToNext party irp) = Some party
-caller_of (call.Skip party irp) = Some party
-caller_of (call.SetRoutine party irp setting) = Some party
-caller_of (call.MarkPending party irp) = Some party
-caller_of (call.CallDriver party irp target) = Some party
-caller_of (call.Complete party irp status information) = Some party
-caller_of (call.SetCancelRoutine party irp cancel) = Some party
-caller_of _ = None
+caller_of call = party_named call
 
 -- on what a completion routine is asked
 abbrev pub flags_words : Bool → Bool → Bool → List ℕ
@@ -95,25 +110,14 @@ arguments_text (call.Delete device) drained =
     codes "(D" ++ (decimal device.0 ++ (codes "), its remove lock " ++ knowledge drained))
 arguments_text (call.Allocate size) drained = locations_text size
 arguments_text (call.Free irp) drained = codes "(" ++ (packet_text irp ++ codes ")")
-arguments_text (call.Reuse irp status) drained =
-    further_text (call.Reuse irp status)
-arguments_text (call.SetNext party irp major word) drained =
-    further_text (call.SetNext party irp major word)
 arguments_text (call.CopyToNext party irp) drained = codes "(" ++ (packet_text irp ++ codes ")")
 arguments_text (call.Skip party irp) drained = codes "(" ++ (packet_text irp ++ codes ")")
-arguments_text (call.SetRoutine party irp setting) drained =
-    further_text (call.SetRoutine party irp setting)
 arguments_text (call.MarkPending party irp) drained = codes "(" ++ (packet_text irp ++ codes ")")
 arguments_text (call.CallDriver party irp target) drained =
     codes "(D" ++ (decimal target.0 ++ (codes ", " ++ (packet_text irp ++ codes ")")))
-arguments_text (call.Complete party irp status information) drained =
-    further_text (call.Complete party irp status information)
-arguments_text (call.FinishTaken irp token status information) drained =
-    further_text (call.FinishTaken irp token status information)
-arguments_text (call.SetCancelRoutine party irp cancel) drained =
-    further_text (call.SetCancelRoutine party irp cancel)
 arguments_text (call.Cancel irp) drained = codes "(" ++ (packet_text irp ++ codes ")")
 arguments_text (call.Look irp) drained = codes " " ++ packet_text irp
+arguments_text call drained = further_text call
 
 -- a call with its arguments
 abbrev pub call_text : Call → Bool → List ℕ

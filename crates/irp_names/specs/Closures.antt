@@ -1,5 +1,5 @@
 -- Closures, and what they answered, in words.
-use Rattle.std.specs.Prelude.{ℕ, ◌≡◌, ◌<◌, ◌^◌, Bool, true, false, List, [], ◌∷◌, ◌++◌, codes, Option, Some, None, ⊤}
+use Rattle.std.specs.Prelude.{ℕ, ◌≡◌, ◌<◌, ◌^◌, Bool, true, false, List, [], ◌++◌, codes, Option, Some, None, ⊤}
 use Rattle.std.specs.Fmt.{decimal}
 use Rattle.irp_types.specs.declared.answer.Answer.{Answer}
 use Rattle.irp_types.specs.declared.answer.CancelAnswer.{CancelAnswer}
@@ -33,11 +33,6 @@ routine_set (Some set) = codes "IoSetCompletionRoutine(" ++ (setting_text set ++
 -- a packet that is passed down in the next lower location
 abbrev pub forwarding : Option Setting → List ℕ
 forwarding set = codes "IoCopyCurrentIrpStackLocationToNext, " ++ (routine_set set ++ codes "IoCallDriver")
-
--- the names of plans
-abbrev pub plan_names : List (List ℕ)
-plan_names =
-    codes "finish" ∷ codes "hold" ∷ codes "hold_slot" ∷ codes "skip" ∷ codes "forward" ∷ codes "forward_pend" ∷ []
 
 -- what a dispatch did
 abbrev pub plan_text : Plan → List ℕ

@@ -2,6 +2,8 @@ pub mod Calls
 pub mod Closures
 pub mod Majors
 pub mod Minors
+pub mod Parts
+pub mod Plans
 pub mod Refusals
 pub mod Replies
 pub mod Rows

@@ -1,13 +1,14 @@
--- Steps by their words, and the calls that they make.
+-- Steps by their words.
 use Rattle.std.specs.Prelude.{ℕ, get_or, List, [], map, Option}
 use Rattle.std.specs.List.{find, slice_get}
 use Rattle.std.specs.Option.{option_map}
 use Rattle.std.proofs.Common.{bytes_eq}
-use Rattle.irp_types.specs.Calls.{Call}
-use Rattle.irp_types.specs.declared.call.Call.TheVariants as call
 use Rattle.irp_names.specs.declared.step_names.Act.{Act}
 use Rattle.irp_names.specs.declared.step_names.Act.TheVariants as act
-use Rattle.irp_names.specs.declared.step_names.TheConstants.{ACTS}
+use Rattle.irp_names.specs.declared.step_names.StepPlace.{StepPlace}
+use Rattle.irp_names.specs.declared.step_names.StepPlace.TheVariants as place
+use Rattle.irp_names.specs.declared.step_names.TheConstants.{ACTS, KEYS}
+use Rattle.irp_names.specs.declared.parts.Part.{Part}
 
 -- what the first row with this word has
 abbrev pub under : List ℕ → List (List ℕ × Act) → Option Act
@@ -29,6 +30,13 @@ checks = map (λ form. form.4.now) ACTS
 
 unfoldable pub answers : List (List ℕ)
 answers = map (λ form. form.5.now) ACTS
+
+-- where a script may have each step; the keys of each there, with what stands under each
+unfoldable pub step_places : List StepPlace
+step_places = map (λ row. row.0) KEYS
+
+unfoldable pub step_keys : List (List (List ℕ × Part))
+step_keys = map (λ row. map (λ key. (key.0.now, key.1)) row.1.now) KEYS
 
 -- the place of a step's row
 abbrev pub act_place : Act → ℕ
@@ -76,6 +84,13 @@ checks_of one = get_or checks (act_place one) []
 unfoldable pub answer_of : Act → List ℕ
 answer_of one = get_or answers (act_place one) []
 
+-- where a script may have it, and its keys there
+unfoldable pub place_of : Act → StepPlace
+place_of one = get_or step_places (act_place one) place.Anywhere
+
+unfoldable pub keys_of : Act → List (List ℕ × Part)
+keys_of one = get_or step_keys (act_place one) []
+
 -- what stands at a place of these rows, and the step at a place
 abbrev pub placed : ℕ → List (List ℕ × Act) → Option Act
 placed place rows = option_map (λ row. row.1) (slice_get rows place)
@@ -86,24 +101,3 @@ act_at place = placed place act_rows
 -- the step that a word names
 unfoldable pub act_named : List ℕ → Option Act
 act_named word = under word act_rows
-
--- the step that makes a call
-abbrev pub act_of : Call → Act
-act_of (call.CreateDevice driver lock) = act.CreateDevice
-act_of (call.Attach device to) = act.Attach
-act_of (call.Detach lower) = act.Detach
-act_of (call.Delete device) = act.Delete
-act_of (call.Allocate size) = act.Allocate
-act_of (call.Free irp) = act.Free
-act_of (call.Cancel irp) = act.Cancel
-act_of (call.Look irp) = act.Look
-act_of (call.Reuse irp status) = act.Reuse
-act_of (call.SetNext party irp major word) = act.SetNext
-act_of (call.CopyToNext party irp) = act.CopyToNext
-act_of (call.Skip party irp) = act.Skip
-act_of (call.MarkPending party irp) = act.MarkPending
-act_of (call.SetRoutine party irp setting) = act.SetRoutine
-act_of (call.CallDriver party irp target) = act.CallDriver
-act_of (call.Complete party irp status information) = act.Complete
-act_of (call.SetCancelRoutine party irp cancel) = act.SetCancelRoutine
-act_of (call.FinishTaken irp token status information) = act.FinishTaken

@@ -25,17 +25,7 @@ pub fn call_name(call: Call) -> &'static str
 pub fn caller_of(call: Call) -> Option<Party>
     ensures { result ≡ caller_of call }
 {
-    match call {
-        Call::SetNext { party, .. }
-        | Call::CopyToNext { party, .. }
-        | Call::Skip { party, .. }
-        | Call::SetRoutine { party, .. }
-        | Call::MarkPending { party, .. }
-        | Call::CallDriver { party, .. }
-        | Call::Complete { party, .. }
-        | Call::SetCancelRoutine { party, .. } => Some(party),
-        _ => None,
-    }
+    call.party()
 }
 
 /// A call with its arguments, as a driver would write it, such as `IoCallDriver(D2, IRP 0.1)`. Of a Delete it tells

@@ -1,8 +1,8 @@
 //! Closures, what they answer and what is set for them.
 
-ghost use Rattle.std.specs.Prelude.{◌≡◌, Some, map};
+ghost use Rattle.std.specs.Prelude.{◌≡◌, Some};
 ghost use Rattle.irp_names.specs.Calls.{flags_words, setting_text};
-ghost use Rattle.irp_names.specs.Closures.{PlansAreToldApart, answer_text, answered_text, cancel_answer_text, cancel_set, closure_text, forwarding, kept_words, plan_names, plan_text, replaced_text, routine_set};
+ghost use Rattle.irp_names.specs.Closures.{PlansAreToldApart, answer_text, answered_text, cancel_answer_text, cancel_set, closure_text, forwarding, kept_words, plan_text, replaced_text, routine_set};
 
 use crate::small::{Hex, RoutineWords, told_if};
 use crate::statuses::ResultWords;
@@ -57,23 +57,6 @@ impl fmt::Display for SettingWords {
             flags_words(self.0)
         )
     }
-}
-
-/// The names of plans, as scripts and transcripts have them (this project's own).
-static PLAN_NAMES: [&'static str; 6] = [
-    "finish",
-    "hold",
-    "hold_slot",
-    "skip",
-    "forward",
-    "forward_pend",
-];
-
-/// The names of plans, as scripts and transcripts have them.
-pub fn plan_names() -> &'static [&'static str]
-    ensures { map (λ name. name.now) result.now ≡ plan_names }
-{
-    &PLAN_NAMES
 }
 
 /// What a dispatch did, as a driver writes it.

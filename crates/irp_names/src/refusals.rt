@@ -2,66 +2,29 @@
 
 ghost use Rattle.std.specs.Prelude.{◌≡◌, Some};
 ghost use Rattle.std.specs.Option.{option_map};
-ghost use Rattle.irp_names.specs.Refusals.{completion_name, delete_name, refusal_meaning, refusal_name, refusal_text, reuse_name, sending_name, windows_name};
+ghost use Rattle.irp_names.specs.Refusals.{completion_name, delete_name, mistake_name, refusal_text, reuse_name, sending_name, windows_name};
 
-use irp_forms::HasName;
-use irp_types::{Call, Refusal};
+use crate::step_names::{Act, act_of};
+use irp_types::{Call, Refusal, refusal_meaning, refusal_name};
 use std::fmt;
-
-/// The name of a refusal, as transcripts and docs/RULES.md have it (this project's own).
-pub fn refusal_name(refusal: Refusal) -> &'static str
-    ensures { result.now ≡ refusal_name refusal }
-{
-    refusal.name()
-}
-
-/// When a refusal comes, in a few words (docs/RULES.md, Refusals).
-pub fn refusal_meaning(refusal: Refusal) -> &'static str
-    ensures { result.now ≡ refusal_meaning refusal }
-{
-    match refusal {
-        Refusal::NoIrp => "no live packet is under this slot",
-        Refusal::Stale => "the packet is in another use by now",
-        Refusal::NoDevice => "no such device was created",
-        Refusal::DeviceGone => "the device was deleted",
-        Refusal::NotOwner => "the caller doesn't own the packet",
-        Refusal::NoLocation => "the originator has no location of its own",
-        Refusal::NotPrepared => "the next location wasn't filled, and the own one wasn't skipped",
-        Refusal::AfterSkip => "after a skip the owner may only send",
-        Refusal::TooShort => "too few locations are left",
-        Refusal::WrongTarget => "a device sends to the device just below it alone",
-        Refusal::NoRoutine => "there is no such routine",
-        Refusal::BadStatus => "no packet is completed with this status",
-        Refusal::CancelRoutineSet => "the packet still has a cancel routine",
-        Refusal::AlreadyCancelled => "the packet was cancelled before",
-        Refusal::InFlight => "a device still has the packet",
-        Refusal::StillAttached => "the device has a neighbour in its stack",
-        Refusal::SameStack => "both devices are in one stack",
-        Refusal::TooDeep => "the stack would be too deep",
-        Refusal::Full => "a limit is reached",
-        Refusal::NothingAttached => "nothing stands above this device",
-        Refusal::NotDrained => "the caller doesn't know the remove lock drained",
-        Refusal::BadSize => "no packet has so many locations",
-        Refusal::BadMajor => "there is no such major function code",
-        Refusal::NoDriver => "there is no such driver",
-        Refusal::Ended => "this use has completed",
-        Refusal::HistoryFull => "the history is full",
-        Refusal::NoLock => "there is no such remove lock",
-        Refusal::SlotHeld => "the packet is kept for a cancel slot",
-        Refusal::NotSlotHeld => "the packet is kept for no cancel slot",
-    }
-}
 
 /// The name in Windows of the mistake for which this call is refused so: a bug check, a code of Driver Verifier or a
 /// rule of Static Driver Verifier. None where there is none (docs/RULES.md, Refusals).
 pub fn windows_name(call: Call, refusal: Refusal) -> Option<&'static str>
     ensures { option_map (λ name. name.now) result ≡ windows_name call refusal }
 {
-    match call {
-        Call::CallDriver { .. } => sending_name(refusal),
-        Call::Complete { .. } | Call::FinishTaken { .. } => completion_name(refusal),
-        Call::Reuse { .. } => reuse_name(refusal),
-        Call::Delete { .. } => delete_name(refusal),
+    mistake_name(act_of(call), refusal)
+}
+
+/// The same for the call that such a step makes.
+pub fn mistake_name(act: Act, refusal: Refusal) -> Option<&'static str>
+    ensures { option_map (λ name. name.now) result ≡ mistake_name act refusal }
+{
+    match act {
+        Act::CallDriver => sending_name(refusal),
+        Act::Complete | Act::FinishTaken => completion_name(refusal),
+        Act::Reuse => reuse_name(refusal),
+        Act::Delete => delete_name(refusal),
         _ => None,
     }
 }

@@ -4,10 +4,9 @@ ghost use Rattle.std.specs.Prelude.{◌≡◌, Some};
 ghost use Rattle.irp_names.specs.Replies.{RefusalsAreToldApart, answered_device, reply_text, routine_set, seen_text};
 
 use crate::call_names::CancelWords;
-use crate::refusals::refusal_name;
 use crate::small::{OwnerWords, PacketWords, told_if};
 use crate::statuses::{ResultWords, StatusWords};
-use irp_types::{Call, CancelId, DeviceId, Reply, Seen};
+use irp_types::{Call, CancelId, DeviceId, Reply, Seen, refusal_name};
 use std::fmt;
 
 /// What a call was answered.

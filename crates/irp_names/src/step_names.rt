@@ -1,9 +1,11 @@
 //! Steps by their words: the calls of the manager, and what is done with remove locks and cancel slots. Source: this
 //! project's own format (docs/FORMATS.md); for the names in Windows the WDK, by the title of each routine's page.
 
-ghost use Rattle.std.specs.Prelude.{◌≡◌, ◌<◌, [], Some, get_or, length, map};
+ghost use Rattle.std.specs.Prelude.{◌≡◌, ◌<◌, ℕ, List, [], Some, get_or, length, map};
+ghost use Rattle.irp_names.specs.Calls.{act_of};
 ghost use Rattle.irp_names.specs.Steps as spec;
 
+use crate::parts::Part;
 use irp_types::Call;
 
 /// What a step does, by its word.
@@ -37,14 +39,138 @@ pub enum Act {
     FinishTaken,
 }
 
-/// Steps, a row each: which it is, its word, the routine of Windows that it stands for (else its own word), and its name
-/// in docs/RULES.md; then for a call its checks, in order and behind those of the party that it names, and what it is
-/// answered, both as that page has them.
-macro_rules! acts {
-    ($($act:ident $word:literal $windows:literal $rules:literal $checks:literal $answer:literal;)*) => {
+/// Every step, in the order of the enum, a row each: which it is, its word, the routine of Windows that it stands for (else
+/// its own word), and its name in docs/RULES.md; then for a call its checks, in order and behind those of the party that
+/// it names, and what it is answered, both as that page has them; then where a script may have it, and its keys there, in
+/// the order in which they are written, with what stands under each; then its keys in a call's entry and in a word line,
+/// none where it has no such. A macro makes a table of them, here and in irp_text_faults.
+#[macro_export]
+macro_rules! each_act {
+    ($table:ident) => {
+        $table! {
+            CreateDevice "create_device" "IoCreateDevice" "CreateDevice"
+                "NoDriver, NoLock, Full" "CreateDevice answers the next number"
+                Anywhere ["driver" Driver "lock" Lock] ["do" Any "driver" Driver "lock" Lock] [];
+            Attach "attach" "IoAttachDeviceToDeviceStack" "Attach"
+                "NoDevice, DeviceGone, NoDevice, DeviceGone, SameStack, StillAttached, TooDeep"
+                "Attach answers the former top of the stack"
+                Anywhere ["device" Device "to" Device] ["device" Device "do" Any "to" Device] [];
+            Detach "detach" "IoDetachDevice" "Detach"
+                "NoDevice, DeviceGone, NothingAttached" "Detach answers the device that stood just above"
+                Anywhere ["lower" Device] ["do" Any "lower" Device] [];
+            Delete "delete" "IoDeleteDevice" "Delete"
+                "NoDevice, DeviceGone, StillAttached, InFlight, NotDrained" "the call answers done"
+                Anywhere ["device" Device] ["device" Device "do" Any "drained" Drained "lock" LockOrNull] [];
+            Allocate "allocate" "IoAllocateIrp" "Allocate"
+                "BadSize, Full" "Allocate answers a slot that is not live, and the next use number"
+                Anywhere ["size" Size "as" Label] ["do" Any "size" Size] [];
+            Free "free" "IoFreeIrp" "Free"
+                "NoIrp, Stale, InFlight" "the call answers done"
+                Anywhere ["irp" Packet] ["do" Any "irp" Packet] [];
+            Cancel "cancel" "IoCancelIrp" "Cancel"
+                "NoIrp, Stale, Ended" "Cancel answers whether there was a cancel routine"
+                Anywhere ["irp" Packet] ["do" Any "irp" Packet] [];
+            Look "look" "look at" "Look"
+                "NoIrp, Stale" "Look answers what the packet holds"
+                Anywhere ["irp" Packet] ["do" Any "irp" Packet] [];
+            Reuse "reuse" "IoReuseIrp" "Reuse"
+                "NoIrp, Stale, InFlight, Full" "Reuse answers the same slot, and the next use number"
+                Anywhere ["irp" Packet "status" Status] ["do" Any "irp" Packet "status" Status] [];
+            SetNext "set_next" "IoGetNextIrpStackLocation" "SetNext"
+                "AfterSkip, TooShort, BadMajor" "the call answers done"
+                Anywhere ["by" Party "irp" Packet "major" Major "word" Word]
+                ["by" Party "do" Any "irp" Packet "major" Major "word" Word] [];
+            CopyToNext "copy_to_next" "IoCopyCurrentIrpStackLocationToNext" "CopyToNext"
+                "NoLocation, AfterSkip, TooShort" "the call answers done"
+                Anywhere ["by" Party "irp" Packet] ["by" Party "do" Any "irp" Packet] [];
+            Skip "skip" "IoSkipCurrentIrpStackLocation" "Skip"
+                "NoLocation, AfterSkip, CancelRoutineSet" "the call answers done"
+                Anywhere ["by" Party "irp" Packet] ["by" Party "do" Any "irp" Packet] [];
+            MarkPending "mark_pending" "IoMarkIrpPending" "MarkPending"
+                "NoLocation, AfterSkip" "the call answers done"
+                Anywhere ["by" Party "irp" Packet] ["by" Party "do" Any "irp" Packet] [];
+            SetRoutine "set_routine" "IoSetCompletionRoutine" "SetRoutine"
+                "AfterSkip, NotPrepared, NoRoutine" "the call answers done"
+                Anywhere ["by" Party "irp" Packet "set" Setting] ["by" Party "do" Any "irp" Packet "set" Setting] [];
+            CallDriver "call_driver" "IoCallDriver" "CallDriver"
+                "NoDevice, DeviceGone, WrongTarget, NotPrepared, TooShort, CancelRoutineSet"
+                "PENDING where a dispatch held or pended, else the status of the finish that ended the descent"
+                Anywhere ["by" Party "irp" Packet "target" Device]
+                ["by" Party "do" Any "irp" Packet "target" Device] [];
+            Complete "complete" "IoCompleteRequest" "Complete"
+                "NoLocation, AfterSkip, BadStatus, CancelRoutineSet" "the call answers done"
+                Anywhere ["by" Party "irp" Packet "status" Status "information" Information]
+                ["by" Party "do" Any "information" Information "irp" Packet "status" Status] [];
+            SetCancelRoutine "set_cancel_routine" "IoSetCancelRoutine" "SetCancelRoutine"
+                "NoLocation, AfterSkip, NoRoutine, AlreadyCancelled"
+                "SetCancelRoutine answers the routine that was set, or none"
+                Anywhere ["by" Party "irp" Packet "cancel" CancelOrNull]
+                ["by" Party "cancel" CancelRoutineOrNull "do" Any "irp" Packet] [];
+            Acquire "acquire" "IoAcquireRemoveLock" "Acquire"
+                "" ""
+                Steps ["lock" Lock "tag" Tag]
+                [] ["do" Any "lock" Lock "reply" WordReply "seat" Seat "step" Step "tag" Tag];
+            Release "release" "IoReleaseRemoveLock" "Release"
+                "" ""
+                Steps ["lock" Lock "tag" Tag]
+                [] ["do" Any "lock" Lock "reply" WordReply "seat" Seat "step" Step "tag" Tag];
+            BeginRemove "begin_remove" "IoReleaseRemoveLockAndWait" "BeginRemove"
+                "" ""
+                Steps ["lock" Lock "tag" Tag]
+                [] ["do" Any "lock" Lock "reply" WordReply "seat" Seat "step" Step "tag" Tag];
+            Drained "drained" "drained" "Drained"
+                "" ""
+                Steps ["lock" Lock] [] ["do" Any "lock" Lock "reply" WordReply "seat" Seat "step" Step];
+            Hand "hand" "hand" "Hand"
+                "" ""
+                FormTwo ["lock" Lock "tag" Tag "to" Seat]
+                [] ["do" Any "lock" Lock "reply" WordReply "seat" Seat "step" Step "tag" Tag "to" Seat];
+            Publish "publish" "publish" "Publish"
+                "" ""
+                FormTwo ["slot" Slot "irp" Packet] [] ["do" Any "reply" WordReply "seat" Seat "slot" Slot "step" Step];
+            Withdraw "withdraw" "withdraw" "Withdraw"
+                "" ""
+                FormTwo ["slot" Slot] [] ["do" Any "reply" WordReply "seat" Seat "slot" Slot "step" Step];
+            Request "request" "request" "Request"
+                "" ""
+                FormTwo ["slot" Slot] [] ["do" Any "reply" WordReply "seat" Seat "slot" Slot "step" Step];
+            FinishTaken "finish_taken" "IoCompleteRequest" "FinishTaken"
+                "NoIrp, Stale, Ended, NotSlotHeld, BadStatus" "the call answers done"
+                FormTwo ["irp" Packet "slot" Slot "status" Status "information" Information]
+                ["do" Any "information" Information "irp" Packet "status" Status "token" Token] ["do" Any "reply" WordReply "seat" Seat "slot" Slot "step" Step];
+        }
+    };
+}
+
+/// The names of steps.
+macro_rules! of_forms {
+    ($($act:ident $word:literal $windows:literal $rules:literal $checks:literal $answer:literal
+        $place:ident [$($keys:tt)*] [$($call:tt)*] [$($line:tt)*];)*) => {
         [$((Act::$act, $word, $windows, $rules, $checks, $answer)),*]
     };
 }
+
+/// The places and the keys of steps.
+macro_rules! of_keys {
+    ($($act:ident $word:literal $windows:literal $rules:literal $checks:literal $answer:literal
+        $place:ident [$($key:literal $part:ident)*] [$($call:tt)*] [$($line:tt)*];)*) => {
+        [$((StepPlace::$place, &[$(($key, Part::$part)),*])),*]
+    };
+}
+
+/// Which scripts may have a step, and where.
+#[derive(Clone, Copy, PartialEq, Eq)]
+pub enum StepPlace {
+    /// Any of them, in `setup` too.
+    Anywhere,
+    /// Any of them, in `steps` alone: it is on a remove lock.
+    Steps,
+    /// One of form 2 or 3, in `steps` alone.
+    FormTwo,
+}
+
+/// A key of a step in a script, and what stands under it.
+pub type StepKey = (&'static str, Part);
 
 /// A step's row.
 type Form = (
@@ -56,64 +182,14 @@ type Form = (
     &'static str,
 );
 
-/// Every step, in the order of the enum.
-static ACTS: [Form; 26] = acts! {
-    CreateDevice "create_device" "IoCreateDevice" "CreateDevice"
-        "NoDriver, NoLock, Full" "CreateDevice answers the next number";
-    Attach "attach" "IoAttachDeviceToDeviceStack" "Attach"
-        "NoDevice, DeviceGone, NoDevice, DeviceGone, SameStack, StillAttached, TooDeep"
-        "Attach answers the former top of the stack";
-    Detach "detach" "IoDetachDevice" "Detach"
-        "NoDevice, DeviceGone, NothingAttached" "Detach answers the device that stood just above";
-    Delete "delete" "IoDeleteDevice" "Delete"
-        "NoDevice, DeviceGone, StillAttached, InFlight, NotDrained" "the call answers done";
-    Allocate "allocate" "IoAllocateIrp" "Allocate"
-        "BadSize, Full" "Allocate answers a slot that is not live, and the next use number";
-    Free "free" "IoFreeIrp" "Free"
-        "NoIrp, Stale, InFlight" "the call answers done";
-    Cancel "cancel" "IoCancelIrp" "Cancel"
-        "NoIrp, Stale, Ended" "Cancel answers whether there was a cancel routine";
-    Look "look" "look at" "Look"
-        "NoIrp, Stale" "Look answers what the packet holds";
-    Reuse "reuse" "IoReuseIrp" "Reuse"
-        "NoIrp, Stale, InFlight, Full" "Reuse answers the same slot, and the next use number";
-    SetNext "set_next" "IoGetNextIrpStackLocation" "SetNext"
-        "AfterSkip, TooShort, BadMajor" "the call answers done";
-    CopyToNext "copy_to_next" "IoCopyCurrentIrpStackLocationToNext" "CopyToNext"
-        "NoLocation, AfterSkip, TooShort" "the call answers done";
-    Skip "skip" "IoSkipCurrentIrpStackLocation" "Skip"
-        "NoLocation, AfterSkip, CancelRoutineSet" "the call answers done";
-    MarkPending "mark_pending" "IoMarkIrpPending" "MarkPending"
-        "NoLocation, AfterSkip" "the call answers done";
-    SetRoutine "set_routine" "IoSetCompletionRoutine" "SetRoutine"
-        "AfterSkip, NotPrepared, NoRoutine" "the call answers done";
-    CallDriver "call_driver" "IoCallDriver" "CallDriver"
-        "NoDevice, DeviceGone, WrongTarget, NotPrepared, TooShort, CancelRoutineSet"
-        "PENDING where a dispatch held or pended, else the status of the finish that ended the descent";
-    Complete "complete" "IoCompleteRequest" "Complete"
-        "NoLocation, AfterSkip, BadStatus, CancelRoutineSet" "the call answers done";
-    SetCancelRoutine "set_cancel_routine" "IoSetCancelRoutine" "SetCancelRoutine"
-        "NoLocation, AfterSkip, NoRoutine, AlreadyCancelled"
-        "SetCancelRoutine answers the routine that was set, or none";
-    Acquire "acquire" "IoAcquireRemoveLock" "Acquire"
-        "" "";
-    Release "release" "IoReleaseRemoveLock" "Release"
-        "" "";
-    BeginRemove "begin_remove" "IoReleaseRemoveLockAndWait" "BeginRemove"
-        "" "";
-    Drained "drained" "drained" "Drained"
-        "" "";
-    Hand "hand" "hand" "Hand"
-        "" "";
-    Publish "publish" "publish" "Publish"
-        "" "";
-    Withdraw "withdraw" "withdraw" "Withdraw"
-        "" "";
-    Request "request" "request" "Request"
-        "" "";
-    FinishTaken "finish_taken" "IoCompleteRequest" "FinishTaken"
-        "NoIrp, Stale, Ended, NotSlotHeld, BadStatus" "the call answers done";
-};
+/// The names of every step.
+static ACTS: [Form; 26] = each_act!(of_forms);
+
+/// Where a script may have a step, and its keys there.
+type Keyed = (StepPlace, &'static [StepKey]);
+
+/// The place and the keys of every step.
+static KEYS: [Keyed; 26] = each_act!(of_keys);
 
 /// Every row. No other function names the table, since a check reads it whole at each that does.
 #[tactic(auto, unfolding(crate::specs::Steps::act_rows, crate::specs::Steps::windows_names, crate::specs::Steps::rules_names, crate::specs::Steps::checks, crate::specs::Steps::answers))]
@@ -127,6 +203,26 @@ fn forms() -> &'static [Form]
     ensures count { length result.now ≡ 26 }
 {
     &ACTS
+}
+
+/// The place and the keys in every row. No other function names that table.
+#[tactic(auto, unfolding(crate::specs::Steps::step_places, crate::specs::Steps::step_keys))]
+fn keyed() -> &'static [Keyed]
+    ensures places { map (λ row. row.0) result.now ≡ spec.step_places }
+    ensures keys { map (λ row. map (λ key. (key.0.now, key.1)) row.1.now) result.now ≡ spec.step_keys }
+    ensures count { length result.now ≡ 26 }
+{
+    &KEYS
+}
+
+/// The place and the keys in the row at a place of these.
+fn keyed_at(rows: &'static [Keyed], at: usize) -> Keyed
+    requires { at < length rows.now }
+    ensures place { result.0 ≡ get_or (map (λ row. row.0) rows.now) at StepPlace.Anywhere }
+    ensures keys { map {B = List ℕ × Part} (λ key. (key.0.now, key.1)) result.1.now
+        ≡ get_or (map (λ row. map {B = List ℕ × Part} (λ key. (key.0.now, key.1)) row.1.now) rows.now) at [] }
+{
+    rows[at]
 }
 
 /// The step of the first of these rows that has this word.
@@ -218,11 +314,27 @@ impl Act {
     {
         row_at(forms(), self as usize).5
     }
+
+    /// Which scripts may have it, and where.
+    #[tactic(auto, unfolding(crate::specs::Steps::place_of))]
+    pub fn place(self) -> StepPlace
+        ensures { result ≡ spec.place_of self }
+    {
+        keyed_at(keyed(), self as usize).0
+    }
+
+    /// Its keys in a script, in the order in which they are written, with what stands under each.
+    #[tactic(auto, unfolding(crate::specs::Steps::keys_of))]
+    pub fn keys(self) -> &'static [StepKey]
+        ensures { map (λ key. (key.0.now, key.1)) result.now ≡ spec.keys_of self }
+    {
+        keyed_at(keyed(), self as usize).1
+    }
 }
 
 /// The step that makes this call.
 pub fn act_of(call: Call) -> Act
-    ensures { result ≡ spec.act_of call }
+    ensures { result ≡ act_of call }
 {
     match call {
         Call::CreateDevice { .. } => Act::CreateDevice,

@@ -86,8 +86,8 @@ examined_by script order founds setup (Some place) are set best = (
 pub examined_examines : (script : ScriptParts) (order : Order) (founds : List Found) (ending : Ending)
     → AreOutcomesOf script true (outcomes_of founds) → IsExamined script founds ending → Examines script order ending
 examined_examines script order founds ending are examined =
-    subst (λ (ending : Ending). Examines script order ending) (sym examined.ends)
-    (examined_by script order founds examined.setup examined.shown are examined.set_up examined.verdict)
+    subst (λ (ending : Ending). Examines script order ending) (sym examined.judged.ends)
+    (examined_by script order founds examined.setup examined.judged.shown are examined.set_up examined.judged.verdict)
 
 pub unexplored_examines : (script : ScriptParts) (order : Order) (answer : Ending) → IsUnexplored script (with_replies order) answer
     → Examines script order answer

@@ -12,6 +12,8 @@ use Rattle.irp_orders.specs.Right.{IsRight, IsSetup}
 use Rattle.irp_orders.specs.declared.ending.Ending.{Ending}
 use Rattle.irp_orders.specs.declared.ending.Ending.TheVariants.{Done, Broken}
 use Rattle.irp_orders.specs.declared.found.Found.{Found}
+use Rattle.irp_orders.specs.declared.judging.Question.{Question}
+use Rattle.irp_orders.specs.declared.judging.Question.TheVariants.{Never, Right}
 
 -- an outcome that was found meets a condition
 abbrev pub IsBreach : List Step → Condition → Found → Type 0
@@ -24,6 +26,11 @@ IsWrong steps setup found = IsRight steps setup found.outcome.end → ⊥
 -- a mark for each outcome, by place: whether it breaks what is asked
 abbrev pub AreMarks : (Found → Type 0) → List Found → List Bool → Type 0
 AreMarks Breaks founds marks = AllZip (λ found mark. IsTrue mark ↔ Breaks found) founds marks
+
+-- an outcome that was found breaks what is asked
+abbrev pub Breaks : List Step → Question → Found → Type 0
+Breaks steps (Never condition) = IsBreach steps condition.now
+Breaks steps (Right setup) = IsWrong steps setup.now
 
 -- how many atomic steps the path of an outcome has
 abbrev pub steps_of : Found → ℕ
@@ -59,19 +66,21 @@ abbrev pub verdict_ending : Option ℕ → Ending
 verdict_ending None = Done
 verdict_ending (Some place) = Broken
 
+-- the outcomes that were found are judged by what breaks what is asked of them; the program ends so
+pub record IsJudged (Breaks : Found → Type 0) (founds : List Found) (ending : Ending) : Type 0 where
+  pub shown : Option ℕ
+  pub verdict : IsVerdict Breaks founds shown
+  pub ends : ending ≡ verdict_ending shown
+
 -- a text says a condition of a script, and the outcomes that were found are judged by it; the program ends so
 pub record IsTold (script : ScriptParts) (tells : Bool) (text : List ℕ) (founds : List Found) (ending : Ending)
     : Type 0 where
   pub condition : Condition
   pub says : Says script tells text condition
-  pub shown : Option ℕ
-  pub verdict : IsVerdict (IsBreach script.steps condition) founds shown
-  pub ends : ending ≡ verdict_ending shown
+  pub judged : IsJudged (IsBreach script.steps condition) founds ending
 
 -- the outcomes that were found are judged by whether they are right; the program ends so
 pub record IsExamined (script : ScriptParts) (founds : List Found) (ending : Ending) : Type 0 where
   pub setup : List Entry
   pub set_up : IsSetup script setup
-  pub shown : Option ℕ
-  pub verdict : IsVerdict (IsWrong script.steps setup) founds shown
-  pub ends : ending ≡ verdict_ending shown
+  pub judged : IsJudged (IsWrong script.steps setup) founds ending

@@ -23,14 +23,15 @@ ghost use Rattle.irp_orders.specs.Program.{
 };
 
 use crate::asked::{Order, Task};
+use crate::columns::Columns;
 use crate::conditions::condition_of;
 use crate::ending::Ending;
 use crate::examining::explore_and_examine;
 use crate::exploring::founds_of;
 use crate::found::Found;
 use crate::groups::groups_of;
-use crate::never::{judged, told};
-use crate::table::{Columns, table};
+use crate::judging::{Question, answered};
+use crate::table::table;
 use irp_listing::send;
 use irp_machine::{paths_can_be_made, replay, replays_end_so};
 use irp_program::TOO_MANY_BYTES;
@@ -59,11 +60,10 @@ fn judge(
     ensures unjudged { IfErr result (IsUnjudged script.now knows_replies text.now) }
 {
     let condition = condition_of(alloc, script, knows_replies, text)?;
-    let steps = script.parts().steps.as_slice();
-    let judgment = judged(alloc, steps, founds, &condition)?;
-    let columns = Columns::of(alloc, script, founds)?;
-    let told = told(alloc, &columns, founds, &judgment)?;
-    Ok(told)
+    match answered(alloc, script, founds, Question::Never(&condition)) {
+        Ok(told) => Ok(told),
+        Err(refusal) => Err(Ending::from(refusal)),
+    }
 }
 
 /// The same of the outcomes of a script's orders.
@@ -87,7 +87,7 @@ fn explore_and_judge(
 }
 
 /// Sends a text; then the program ends so.
-fn send_text<O: Out>(output: &mut O, text: &[u8], ending: Ending) -> Ending
+pub fn send_text<O: Out>(output: &mut O, text: &[u8], ending: Ending) -> Ending
     ensures { IsSent ending result }
 {
     match send(output, text) {
@@ -231,7 +231,7 @@ fn show<O: Out>(
 }
 
 /// Tells what is asked of the orders of a script.
-fn answer<O: Out>(alloc: Global, output: &mut O, script: &Script, order: &Order<'_>) -> Ending
+pub fn answer<O: Out>(alloc: Global, output: &mut O, script: &Script, order: &Order<'_>) -> Ending
     ensures { Answers script.now order.now order.now.task (O.gone output.old)
         (O.gone output.new) result }
 {
@@ -244,12 +244,7 @@ fn answer<O: Out>(alloc: Global, output: &mut O, script: &Script, order: &Order<
 }
 
 /// Tells what is asked of the orders of the script that a text is.
-pub fn read_and_answer<O: Out>(
-    alloc: Global,
-    output: &mut O,
-    order: &Order<'_>,
-    text: &[u8],
-) -> Ending
+fn read_and_answer<O: Out>(alloc: Global, output: &mut O, order: &Order<'_>, text: &[u8]) -> Ending
     ensures { IsGivenUp result ⊎ (IsRefused text.now result
         ⊎ IsAnswered order.now text.now (O.gone output.old) (O.gone output.new) result) }
 {

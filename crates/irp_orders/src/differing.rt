@@ -1,4 +1,4 @@
-//! What differs between the ends of outcomes, beside what the table tells anyway.
+//! What differs between the packets and devices of outcomes, beside what the table tells anyway.
 
 use crate::found::Found;
 use irp_machine::{DeviceEnd, LiveEnd};
@@ -32,14 +32,13 @@ impl PacketFacts {
 
     /// Notes in which facts two packets differ.
     fn note(&mut self, one: &LiveEnd, other: &LiveEnd) {
-        self.information = self.information || one.information != other.information;
-        self.pending_returned = self.pending_returned
-            || one.pending_returned != other.pending_returned;
-        self.cancel = self.cancel || one.cancel != other.cancel;
-        self.cancel_routine = self.cancel_routine || one.cancel_routine != other.cancel_routine;
-        self.preparation = self.preparation || one.preparation != other.preparation;
-        self.slot_held = self.slot_held || one.slot_held != other.slot_held;
-        self.locations = self.locations || one.locations.as_slice() != other.locations.as_slice();
+        self.information |= one.information != other.information;
+        self.pending_returned |= one.pending_returned != other.pending_returned;
+        self.cancel |= one.cancel != other.cancel;
+        self.cancel_routine |= one.cancel_routine != other.cancel_routine;
+        self.preparation |= one.preparation != other.preparation;
+        self.slot_held |= one.slot_held != other.slot_held;
+        self.locations |= one.locations.as_slice() != other.locations.as_slice();
     }
 }
 
@@ -50,18 +49,6 @@ fn look_alike(one: &LiveEnd, other: &LiveEnd) -> bool {
         && one.owner == other.owner
         && one.current == other.current
         && one.status == other.status
-}
-
-/// The facts in which packets of these outcomes differ that look alike.
-fn packet_facts(alloc: Global, founds: &[Found]) -> Result<PacketFacts, AllocError> {
-    let mut facts = PacketFacts::none();
-    let mut firsts = Vec::new(alloc);
-    for found in founds {
-        for live in found.outcome.end.packets.as_slice() {
-            note_packet(&mut facts, &mut firsts, live)?;
-        }
-    }
-    Ok(facts)
 }
 
 /// Notes in which facts a packet differs from the first that looks like it, or that it is the first.
@@ -80,43 +67,16 @@ fn note_packet<'a>(
     Ok(())
 }
 
-/// For each of so many labels whether it stands for one packet in some outcome and for another in another.
-fn label_places(alloc: Global, founds: &[Found], labels: usize) -> Result<Vec<bool>, AllocError> {
-    let mut differing = Vec::from_elem(alloc, false, labels)?;
-    let Some(first) = founds.first() else {
-        return Ok(differing);
-    };
-    let first = first.outcome.end.labels.as_slice();
+/// The facts in which packets of these outcomes differ that look alike. The one error is want of memory.
+pub fn packet_facts(alloc: Global, founds: &[Found]) -> Result<PacketFacts, AllocError> {
+    let mut facts = PacketFacts::none();
+    let mut firsts = Vec::new(alloc);
     for found in founds {
-        let pairs = first.iter().zip(found.outcome.end.labels.as_slice().iter());
-        for (place, pair) in differing.iter_mut().zip(pairs) {
-            *place = *place || *pair.0 != *pair.1;
+        for live in found.outcome.end.packets.as_slice() {
+            note_packet(&mut facts, &mut firsts, live)?;
         }
     }
-    Ok(differing)
-}
-
-/// There are at most so many devices.
-const MOST_DEVICES: usize = 64;
-
-/// Notes the devices that are in one of two lists alone, or in another state.
-fn note_devices(differing: &mut [bool], one: &[DeviceEnd], other: &[DeviceEnd]) {
-    for (number, place) in differing.iter_mut().enumerate() {
-        *place = *place || one.get(number).copied() != other.get(number).copied();
-    }
-}
-
-/// For each device whether it was created in some outcomes alone, or is in another state in some.
-fn device_places(alloc: Global, founds: &[Found]) -> Result<Vec<bool>, AllocError> {
-    let mut differing = Vec::from_elem(alloc, false, MOST_DEVICES)?;
-    let Some(first) = founds.first() else {
-        return Ok(differing);
-    };
-    for found in founds {
-        let (one, other) = (&first.outcome.end.devices, &found.outcome.end.devices);
-        note_devices(differing.as_mut_slice(), one.as_slice(), other.as_slice());
-    }
-    Ok(differing)
+    Ok(facts)
 }
 
 /// Whether a device is of another driver or has another remove lock than one of the same number.
@@ -125,7 +85,7 @@ fn has_other_driver(pair: (&DeviceEnd, &DeviceEnd)) -> bool {
 }
 
 /// Whether a device of some outcome is of another driver or has another remove lock in another outcome.
-fn drivers_differ(founds: &[Found]) -> bool {
+pub fn drivers_differ(founds: &[Found]) -> bool {
     let Some(first) = founds.first() else {
         return false;
     };
@@ -138,26 +98,4 @@ fn drivers_differ(founds: &[Found]) -> bool {
         differ = differ || pairs.any(has_other_driver);
     }
     differ
-}
-
-/// What differs between the ends of outcomes: facts of packets, and by their places labels and devices.
-#[derive(Drop)]
-pub struct Differing {
-    pub facts: PacketFacts,
-    pub labels: Vec<bool>,
-    pub devices: Vec<bool>,
-    /// Whether a device is of another driver or has another remove lock in some outcome.
-    pub drivers: bool,
-}
-
-impl Differing {
-    /// What differs between the ends of these outcomes of a script of so many labels. The one error is want of memory.
-    pub fn of(alloc: Global, founds: &[Found], labels: usize) -> Result<Differing, AllocError> {
-        Ok(Differing {
-            facts: packet_facts(alloc, founds)?,
-            labels: label_places(alloc, founds, labels)?,
-            devices: device_places(alloc, founds)?,
-            drivers: drivers_differ(founds),
-        })
-    }
 }

@@ -1,36 +1,51 @@
-//! What orders leave, in words: packets, labels, devices, remove locks and cancel slots.
+//! What orders leave, in lines: packets, labels, devices, remove locks and cancel slots.
 
 use crate::differing::PacketFacts;
-use irp_machine::{DeviceEnd, Holder, LiveEnd, LockEnd, SlotEnd};
-use irp_names::{MajorWords, OwnerWords, PacketWords, SettingWords, StatusWords};
+use crate::text::Text;
+use irp_machine::{DeviceEnd, LiveEnd, LockEnd, SlotEnd};
+use irp_names::{MajorWords, OwnerWords, PacketWords, SettingWords, StatusWords, told_if};
 use irp_types::{IrpRef, Location, Preparation};
-use std::fmt;
 
-/// A live packet, behind the labels that name it, with these further facts.
-#[derive(Clone, Copy)]
-pub struct LiveWords<'a> {
-    pub live: &'a LiveEnd,
-    pub facts: PacketFacts,
-    /// The labels of the script, and what each of them stands for.
-    pub labels: &'a [String],
-    pub named: &'a [IrpRef],
+/// Whether a reference names a live packet.
+pub fn names(irp: &IrpRef, live: &LiveEnd) -> bool {
+    irp.slot == live.slot && irp.use_no == live.use_no
 }
 
-impl fmt::Display for LiveWords<'_> {
-    fn fmt<W: fmt::Write>(&self, f: &mut fmt::Formatter<W>) -> fmt::Result {
-        let (slot, use_no) = (self.live.slot, self.live.use_no);
-        for (label, irp) in self.labels.iter().zip(self.named.iter()) {
-            if irp.slot == slot && irp.use_no == use_no {
-                write!(f, "{} = ", label)?;
-            }
-        }
-        write!(f, "{}: ", PacketWords(IrpRef { slot, use_no }))?;
-        write!(f, "{}", OwnerWords(self.live.owner))?;
-        write!(f, ", current location {}", self.live.current)?;
-        write!(f, ", {}", StatusWords(self.live.status))?;
-        let (live, facts) = (self.live, self.facts);
-        write!(f, "{}", FactWords { live, facts })
+/// The reference to a live packet.
+pub fn reference_of(live: &LiveEnd) -> IrpRef {
+    IrpRef {
+        slot: live.slot,
+        use_no: live.use_no,
     }
+}
+
+/// Puts the labels that name a live packet, where these stand for those.
+fn put_names(out: &mut Text, live: &LiveEnd, labels: &[String], named: &[IrpRef]) {
+    for (label, irp) in labels.iter().zip(named.iter()) {
+        if names(irp, live) {
+            out.put(label.as_str());
+            out.put(" = ");
+        }
+    }
+}
+
+/// Puts the line of a live packet, behind the labels that name it, with these further facts. Its locations have lines of
+/// their own.
+pub fn put_live(
+    out: &mut Text,
+    live: &LiveEnd,
+    facts: PacketFacts,
+    labels: &[String],
+    named: &[IrpRef],
+) {
+    out.put("    ");
+    put_names(out, live, labels, named);
+    out.tell("", PacketWords(reference_of(live)));
+    out.tell(": ", OwnerWords(live.owner));
+    out.tell(", current location ", live.current);
+    out.tell(", ", StatusWords(live.status));
+    put_facts(out, live, facts);
+    out.end();
 }
 
 /// The words of a packet's preparation.
@@ -42,157 +57,104 @@ fn preparation_words(preparation: Preparation) -> &'static str {
     }
 }
 
-/// These facts of a live packet; its locations have lines of their own.
-#[derive(Clone, Copy)]
-struct FactWords<'a> {
-    live: &'a LiveEnd,
-    facts: PacketFacts,
-}
-
-impl fmt::Display for FactWords<'_> {
-    fn fmt<W: fmt::Write>(&self, f: &mut fmt::Formatter<W>) -> fmt::Result {
-        let (live, facts) = (self.live, self.facts);
-        if facts.information {
-            write!(f, ", information {:#x}", live.information)?;
-        }
-        if facts.cancel && live.cancel {
-            f.write_str(", cancelled")?;
-        }
-        if facts.cancel_routine
-            && let Some(id) = live.cancel_routine
-        {
-            write!(f, ", cancel routine {} set", id.0)?;
-        }
-        if facts.pending_returned && live.pending_returned {
-            f.write_str(", PendingReturned")?;
-        }
-        if facts.slot_held && live.slot_held {
-            f.write_str(", in a cancel slot")?;
-        }
-        f.write_str(match facts.preparation {
-            true => preparation_words(live.preparation),
-            false => "",
-        })
+/// Puts these facts of a live packet.
+fn put_facts(out: &mut Text, live: &LiveEnd, facts: PacketFacts) {
+    if facts.information {
+        out.tell(", information ", format_args!("{:#x}", live.information));
+    }
+    out.put(told_if(facts.cancel & live.cancel, ", cancelled"));
+    if facts.cancel_routine
+        && let Some(id) = live.cancel_routine
+    {
+        out.tell(", cancel routine ", id.0);
+        out.put(" set");
+    }
+    out.put(told_if(
+        facts.pending_returned & live.pending_returned,
+        ", PendingReturned",
+    ));
+    out.put(told_if(facts.slot_held & live.slot_held, ", in a cancel slot"));
+    if facts.preparation {
+        out.put(preparation_words(live.preparation));
     }
 }
 
-/// A location of a packet, by its number.
-#[derive(Clone, Copy)]
-pub struct LocationWords {
-    pub number: u64,
-    pub location: Location,
+/// Puts the line of a location of a packet, by its number.
+pub fn put_location(out: &mut Text, number: u64, location: Location) {
+    out.tell("        location ", number);
+    out.tell(": ", MajorWords(location.major));
+    out.tell(", word ", format_args!("{:#x}", location.word));
+    if let Some(device) = location.device {
+        out.tell(", D", device.0);
+    }
+    if let Some(setting) = location.setting {
+        out.tell(", ", SettingWords(setting));
+    }
+    out.put(told_if(location.pending, ", marked pending"));
+    out.end();
 }
 
-impl fmt::Display for LocationWords {
-    fn fmt<W: fmt::Write>(&self, f: &mut fmt::Formatter<W>) -> fmt::Result {
-        let location = self.location;
-        write!(f, "    location {}: ", self.number)?;
-        write!(f, "{}", MajorWords(location.major))?;
-        write!(f, ", word {:#x}", location.word)?;
-        if let Some(device) = location.device {
-            write!(f, ", D{}", device.0)?;
-        }
-        if let Some(setting) = location.setting {
-            write!(f, ", {}", SettingWords(setting))?;
-        }
-        f.write_str(if location.pending {
-            ", marked pending"
-        } else {
-            ""
-        })
+/// Puts the line of a label that names no live packet, and what it stands for.
+pub fn put_label(out: &mut Text, label: &str, irp: IrpRef) {
+    out.put("    ");
+    out.put(label);
+    if irp.use_no == 0 {
+        out.put(": not bound");
+    } else {
+        out.tell(" = ", PacketWords(irp));
+        out.put(": not live");
+    }
+    out.end();
+}
+
+/// Puts the line of a device, by its number, and where it is wanted of which driver and remove lock.
+pub fn put_device(out: &mut Text, number: usize, device: DeviceEnd, tells_driver: bool) {
+    out.tell("    D", number);
+    out.put(if device.live { ": live" } else { ": deleted" });
+    if let Some(lower) = device.lower {
+        out.tell(", attached to D", lower.0);
+    }
+    if tells_driver {
+        out.tell(", driver ", device.driver.0);
+        out.tell(", remove lock ", device.lock.0);
+    }
+    out.end();
+}
+
+/// Puts who holds a remove lock, each behind these words.
+pub fn put_holders(out: &mut Text, words: &str, lock: &LockEnd) {
+    for holder in lock.holders.as_slice() {
+        out.tell(words, holder.seat);
+        out.tell(" as tag ", holder.tag);
     }
 }
 
-/// A label that names no live packet, and what it stands for.
-#[derive(Clone, Copy)]
-pub struct LabelWords<'a> {
-    pub label: &'a str,
-    pub irp: IrpRef,
+/// Puts the line of a remove lock: its number, its word, and who holds it.
+pub fn put_lock(out: &mut Text, number: usize, lock: &LockEnd) {
+    out.tell("    remove lock ", number);
+    out.tell(": word ", format_args!("{:#x}", lock.word));
+    out.put(if lock.word % 2 == 1 {
+        ", removal has begun"
+    } else {
+        ", removal hasn't begun"
+    });
+    put_holders(out, ", held by seat ", lock);
+    out.end();
 }
 
-impl fmt::Display for LabelWords<'_> {
-    fn fmt<W: fmt::Write>(&self, f: &mut fmt::Formatter<W>) -> fmt::Result {
-        match self.irp.use_no {
-            0 => write!(f, "{}: not bound", self.label),
-            _ => write!(f, "{} = {}: not live", self.label, PacketWords(self.irp)),
-        }
+/// Puts the line of a cancel slot: its number, what stands in it, and whether somebody asked for it.
+pub fn put_slot(out: &mut Text, number: usize, slot: SlotEnd) {
+    out.tell("    cancel slot ", number);
+    if slot.content == 0 {
+        out.put(": empty");
+    } else {
+        out.tell(": use ", slot.content);
+        out.put(" stands in it");
     }
-}
-
-/// A device, by its number, and where it is wanted of which driver and remove lock.
-#[derive(Clone, Copy)]
-pub struct DeviceEndWords {
-    pub number: usize,
-    pub device: DeviceEnd,
-    pub tells_driver: bool,
-}
-
-impl fmt::Display for DeviceEndWords {
-    fn fmt<W: fmt::Write>(&self, f: &mut fmt::Formatter<W>) -> fmt::Result {
-        let device = self.device;
-        write!(f, "D{}: ", self.number)?;
-        f.write_str(if device.live { "live" } else { "deleted" })?;
-        if let Some(lower) = device.lower {
-            write!(f, ", attached to D{}", lower.0)?;
-        }
-        if self.tells_driver {
-            write!(f, ", driver {}", device.driver.0)?;
-            write!(f, ", remove lock {}", device.lock.0)?;
-        }
-        Ok(())
-    }
-}
-
-/// The reference that a seat holds, by its tag.
-#[derive(Clone, Copy)]
-struct HolderWords(Holder);
-
-impl fmt::Display for HolderWords {
-    fn fmt<W: fmt::Write>(&self, f: &mut fmt::Formatter<W>) -> fmt::Result {
-        write!(f, ", held by seat {} as tag {}", self.0.seat, self.0.tag)
-    }
-}
-
-/// A remove lock: its number, its word, and who holds it.
-#[derive(Clone, Copy)]
-pub struct LockWords<'a> {
-    pub number: usize,
-    pub lock: &'a LockEnd,
-}
-
-impl fmt::Display for LockWords<'_> {
-    fn fmt<W: fmt::Write>(&self, f: &mut fmt::Formatter<W>) -> fmt::Result {
-        write!(f, "remove lock {}: word {:#x}", self.number, self.lock.word)?;
-        f.write_str(if self.lock.word % 2 == 1 {
-            ", removal has begun"
-        } else {
-            ", removal hasn't begun"
-        })?;
-        for holder in self.lock.holders.as_slice() {
-            write!(f, "{}", HolderWords(*holder))?;
-        }
-        Ok(())
-    }
-}
-
-/// A cancel slot: its number, what stands in it, and whether somebody asked for it.
-#[derive(Clone, Copy)]
-pub struct SlotWords {
-    pub number: usize,
-    pub slot: SlotEnd,
-}
-
-impl fmt::Display for SlotWords {
-    fn fmt<W: fmt::Write>(&self, f: &mut fmt::Formatter<W>) -> fmt::Result {
-        write!(f, "cancel slot {}: ", self.number)?;
-        match self.slot.content {
-            0 => f.write_str("empty")?,
-            use_no => write!(f, "use {use_no} stands in it")?,
-        }
-        f.write_str(if self.slot.flag {
-            ", asked for"
-        } else {
-            ", not asked for"
-        })
-    }
+    out.put(if slot.flag {
+        ", asked for"
+    } else {
+        ", not asked for"
+    });
+    out.end();
 }

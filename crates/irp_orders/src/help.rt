@@ -1,7 +1,7 @@
 //! The help.
 
+use crate::answering::send_text;
 use crate::ending::Ending;
-use irp_listing::send;
 use irp_streams::Out;
 
 /// What the help says.
@@ -46,8 +46,5 @@ Examples:
 
 /// Writes the help.
 pub fn help<O: Out>(output: &mut O) -> Ending {
-    match send(output, HELP.as_bytes()) {
-        Ok(()) => Ending::Done,
-        Err(fault) => Ending::from(fault),
-    }
+    send_text(output, HELP.as_bytes(), Ending::Done)
 }

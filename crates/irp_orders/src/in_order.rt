@@ -1,11 +1,13 @@
 //! The steps of one order, one after another.
 
-use crate::table::{Columns, put_step};
+use crate::columns::Columns;
+use crate::steps::put_step;
+use crate::text::Text;
 use irp_machine::{Answered, NotMade, replay};
 use irp_script_reader::Step;
 use irp_transcript::{Transcript, WordLine, WordReply};
 use irp_types::Entry;
-use std::alloc::{AllocError, Global};
+use std::alloc::Global;
 
 /// There are at most so many seats.
 const MOST_SEATS: usize = 64;
@@ -36,14 +38,7 @@ impl Part<'_> {
 }
 
 /// Puts the steps of a seat that were answered, but for the first so many, each with its answer.
-fn put_run(
-    alloc: Global,
-    out: &mut Vec<u8>,
-    columns: &Columns<'_>,
-    part: Part<'_>,
-    seat: u32,
-    before: usize,
-) -> Result<(), AllocError> {
+fn put_run(out: &mut Text, columns: &Columns<'_>, part: Part<'_>, seat: u32, before: usize) {
     let steps = columns.script.parts().steps.as_slice();
     let own = steps.iter().enumerate().filter(|own| own.1.seat == seat);
     let mut calls = part.entries.iter().filter(|entry| entry.seat == seat);
@@ -55,10 +50,9 @@ fn put_run(
         if let Some(answer) = answer
             && number >= before
         {
-            put_step(alloc, out, columns, place, *step, answer)?;
+            put_step(out, columns.labels, place, *step, answer);
         }
     }
-    Ok(())
 }
 
 /// The entries of a transcript behind the first so many.
@@ -70,6 +64,26 @@ fn part_of(transcript: &Transcript, front: usize) -> Part<'_> {
     }
 }
 
+/// Puts the steps of a seat that are answered along a path, but for the first so many. Returns how many are answered.
+///
+/// # Errors
+///
+/// `NoStep` where the path can't be made again; `Memory` where memory ran out.
+fn put_behind(
+    alloc: Global,
+    out: &mut Text,
+    columns: &Columns<'_>,
+    front: usize,
+    path: &[u32],
+    seat: u32,
+    before: usize,
+) -> Result<usize, NotMade> {
+    let transcript = replay(alloc, columns.script, path)?;
+    let part = part_of(&transcript, front);
+    put_run(out, columns, part, seat, before);
+    Ok(part.answered(seat))
+}
+
 /// Puts each step that is made along a path of seats, as the table puts it, in the order in which they are answered.
 ///
 /// # Errors
@@ -77,22 +91,19 @@ fn part_of(transcript: &Transcript, front: usize) -> Part<'_> {
 /// `NoStep` where the path can't be made again; `Memory` where memory ran out.
 pub fn put_in_order(
     alloc: Global,
-    out: &mut Vec<u8>,
+    out: &mut Text,
     columns: &Columns<'_>,
     path: &[u32],
 ) -> Result<(), NotMade> {
     let front = replay(alloc, columns.script, &[])?.entries().len();
-    let mut told = Vec::from_elem(alloc, 0usize, MOST_SEATS)?;
+    let mut told = [0usize; MOST_SEATS];
     for (place, seat) in path.iter().enumerate() {
         let behind = place.saturating_add(1);
         if path.get(behind) != Some(seat)
             && let Some(path) = path.get(..behind)
             && let Some(told) = told.get_mut(*seat as usize)
         {
-            let transcript = replay(alloc, columns.script, path)?;
-            let part = part_of(&transcript, front);
-            put_run(alloc, out, columns, part, *seat, *told)?;
-            *told = part.answered(*seat);
+            *told = put_behind(alloc, out, columns, front, path, *seat, *told)?;
         }
     }
     Ok(())

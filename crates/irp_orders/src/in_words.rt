@@ -1,9 +1,10 @@
 //! Telling what is asked of the orders of a script in words.
 
-ghost use Rattle.std.specs.Prelude.{◌⊎◌, IfErr};
-ghost use Rattle.irp_orders.specs.Program.{ExploresWords, IsFaulty, IsGivenUp, IsToldOfJson};
+ghost use Rattle.std.specs.Prelude.{◌⊎◌, IfOk, Ok, string_bytes};
+ghost use Rattle.irp_script_reader.specs.Scripts.{ReadsScript};
+ghost use Rattle.irp_orders.specs.Program.{ExploresWords, IsFaulty, IsToldOfJson};
 
-use crate::answering::read_and_answer;
+use crate::answering::answer;
 use crate::asked::Order;
 use crate::ending::Ending;
 use irp_grammar::{Told, Untold, fault_lines, json, read_lines};
@@ -12,8 +13,15 @@ use irp_streams::{Out, read_up_to};
 use std::alloc::Global;
 use std::io::Read;
 
-/// The JSON of a text in words, with its script.
-fn told_of<'a>(alloc: Global, text: &'a [u8]) -> Result<Told, Untold<'a>> {
+/// The JSON that `irp_words json` prints of a text in words, with its script.
+///
+/// # Errors
+///
+/// The faults that the words have; that memory ran out. `Differs` is a fault of this program, which no text is known to
+/// bring about.
+fn told_of<'a>(alloc: Global, text: &'a [u8]) -> Result<Told, Untold<'a>>
+    ensures { IfOk result (λ told. ReadsScript (Ok told.script) (string_bytes told.text)) }
+{
     let said = read_lines(alloc, text)?;
     json(alloc, &said)
 }
@@ -32,29 +40,14 @@ fn ending_of(alloc: Global, untold: Untold<'_>) -> Ending
     }
 }
 
-/// The JSON that `irp_words json` prints of a text in words.
-///
-/// # Errors
-///
-/// `FaultyWords` where the words have faults, and `NoMemory` where memory ran out. `Differs` is a fault of this program,
-/// which no text is known to bring about.
-fn json_of(alloc: Global, text: &[u8]) -> Result<String, Ending>
-    ensures { IfErr result IsFaulty }
-{
-    match told_of(alloc, text) {
-        Ok(told) => Ok(told.text),
-        Err(untold) => Err(ending_of(alloc, untold)),
-    }
-}
-
 /// Tells what is asked of the orders of the script that words say.
 fn answer_words<O: Out>(alloc: Global, output: &mut O, order: &Order<'_>, text: &[u8]) -> Ending
     ensures { IsFaulty result
         ⊎ IsToldOfJson order.now (O.gone output.old) (O.gone output.new) result }
 {
-    match json_of(alloc, text) {
-        Ok(json) => read_and_answer(alloc, output, order, json.as_bytes()),
-        Err(ending) => ending,
+    match told_of(alloc, text) {
+        Ok(told) => answer(alloc, output, &told.script, order),
+        Err(untold) => ending_of(alloc, untold),
     }
 }
 

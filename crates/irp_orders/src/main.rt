@@ -4,6 +4,7 @@
 mod alike;
 mod answering;
 mod asked;
+mod columns;
 mod conditions;
 mod differing;
 mod ending;
@@ -16,12 +17,13 @@ mod groups;
 mod help;
 mod in_order;
 mod in_words;
+mod judging;
 mod names;
-mod never;
 mod right;
 mod steps;
 mod such;
 mod table;
+mod text;
 mod words;
 mod wrongs;
 

@@ -45,17 +45,17 @@ pub fn is_taken(entry: &Entry) -> bool
 }
 
 /// Whether a step wasn't refused.
-pub fn is_accepted(answer: Option<Answered>) -> bool
-    ensures { (result ≡ true) ↔ IsAccepted answer }
+fn is_accepted(answer: &Option<Answered>) -> bool
+    ensures { (result ≡ true) ↔ IsAccepted answer.now }
 {
-    match answer {
+    match *answer {
         Some(answer) => !is_refused(answer),
         None => true,
     }
 }
 
 /// Whether no device has a packet.
-pub fn is_back(live: &LiveEnd) -> bool
+fn is_back(live: &LiveEnd) -> bool
     ensures { (result ≡ true) ↔ IsBack live.now }
 {
     match live.owner {
@@ -89,42 +89,42 @@ pub fn is_empty(slot: &SlotEnd) -> bool
 fn all_taken(setup: &[Entry]) -> bool
     ensures { (result ≡ true) ↔ All IsTaken setup.now }
 {
-    setup.iter().all(|entry| is_taken(entry))
+    setup.iter().all(is_taken)
 }
 
 /// Whether no step was refused.
 fn all_accepted(answers: &[Option<Answered>]) -> bool
     ensures { (result ≡ true) ↔ All IsAccepted answers.now }
 {
-    answers.iter().all(|answer| is_accepted(*answer))
+    answers.iter().all(is_accepted)
 }
 
 /// Whether no device has a packet.
 fn all_back(packets: &[LiveEnd]) -> bool
     ensures { (result ≡ true) ↔ All IsBack packets.now }
 {
-    packets.iter().all(|live| is_back(live))
+    packets.iter().all(is_back)
 }
 
 /// Whether no packet has a cancel routine.
 fn all_without_routine(packets: &[LiveEnd]) -> bool
     ensures { (result ≡ true) ↔ All IsWithoutRoutine packets.now }
 {
-    packets.iter().all(|live| is_without_routine(live))
+    packets.iter().all(is_without_routine)
 }
 
 /// Whether nobody holds a remove lock.
 fn all_released(locks: &[LockEnd]) -> bool
     ensures { (result ≡ true) ↔ All IsReleased locks.now }
 {
-    locks.iter().all(|lock| is_released(lock))
+    locks.iter().all(is_released)
 }
 
 /// Whether nothing stands in a cancel slot.
 fn all_empty(slots: &[SlotEnd]) -> bool
     ensures { (result ≡ true) ↔ All IsEmpty slots.now }
 {
-    slots.iter().all(|slot| is_empty(slot))
+    slots.iter().all(is_empty)
 }
 
 /// Whether an end of a script with these steps is right, behind the setup that these entries tell (this project's own

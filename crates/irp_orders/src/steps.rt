@@ -1,29 +1,21 @@
-//! Steps of a script and what they were answered, in words.
+//! Steps of a script and what they were answered, in lines.
 
+use crate::text::Text;
 use irp_listing::WordLineWords;
 use irp_machine::Answered;
-use irp_names::{PacketWords, PartyWords, ReplyWords, call_name, caller_of};
+use irp_names::{PacketWords, PartyWords, ReplyWords, call_name, caller_of, told_if};
 use irp_script_reader::{Named, Step, StepAct};
 use irp_transcript::{Act, WordLine, WordReply};
 use irp_types::{Call, DeviceId, IrpRef, Reply, SlotAct};
-use std::fmt;
 
-/// A packet as a step names it: by its label, or by its reference.
-#[derive(Clone, Copy)]
-struct NamedWords<'a> {
-    named: Named,
-    labels: &'a [String],
-}
-
-impl fmt::Display for NamedWords<'_> {
-    fn fmt<W: fmt::Write>(&self, f: &mut fmt::Formatter<W>) -> fmt::Result {
-        match self.named {
-            Named::Irp(irp) => write!(f, "{}", PacketWords(irp)),
-            Named::Label(place) => match self.labels.get(place) {
-                Some(label) => f.write_str(label.as_str()),
-                None => write!(f, "label {place}"),
-            },
-        }
+/// Puts a packet as a step names it: by its label, or by its reference.
+fn put_named(out: &mut Text, labels: &[String], named: Named) {
+    match named {
+        Named::Irp(irp) => out.tell("", PacketWords(irp)),
+        Named::Label(place) => match labels.get(place) {
+            Some(label) => out.put(label.as_str()),
+            None => out.tell("label ", place),
+        },
     }
 }
 
@@ -40,33 +32,37 @@ fn device_of(call: Call) -> Option<DeviceId> {
     }
 }
 
-/// A call of a step and its reply.
-#[derive(Clone, Copy)]
-struct CallTold<'a> {
-    call: Call<Named, u32>,
-    reply: Reply,
-    labels: &'a [String],
+/// Puts the device and the packet that a call names.
+fn put_arguments(
+    out: &mut Text,
+    labels: &[String],
+    device: Option<DeviceId>,
+    packet: Option<Named>,
+) {
+    out.put("(");
+    if let Some(device) = device {
+        out.tell("D", device.0);
+        out.put(told_if(packet.is_some(), ", "));
+    }
+    if let Some(named) = packet {
+        put_named(out, labels, named);
+    }
+    out.put(")");
 }
 
-impl fmt::Display for CallTold<'_> {
-    fn fmt<W: fmt::Write>(&self, f: &mut fmt::Formatter<W>) -> fmt::Result {
-        let call = self.call.with(NO_PACKET, 0);
-        if let Some(party) = caller_of(call) {
-            write!(f, "{}: ", PartyWords(party))?;
-        }
-        f.write_str(call_name(call))?;
-        let labels = self.labels;
-        match (device_of(call), self.call.packet()) {
-            (Some(device), Some(named)) => {
-                write!(f, "(D{}, {})", device.0, NamedWords { named, labels })?
-            }
-            (Some(device), None) => write!(f, "(D{})", device.0)?,
-            (None, Some(named)) => write!(f, "({})", NamedWords { named, labels })?,
-            (None, None) => {}
-        }
-        let reply = self.reply;
-        write!(f, " -> {}", ReplyWords { call, reply })
+/// Puts a call of a step and its reply.
+fn put_call(out: &mut Text, labels: &[String], named: Call<Named, u32>, reply: Reply) {
+    let call = named.with(NO_PACKET, 0);
+    if let Some(party) = caller_of(call) {
+        out.tell("", PartyWords(party));
+        out.put(": ");
     }
+    out.put(call_name(call));
+    let (device, packet) = (device_of(call), named.packet());
+    if device.is_some() || packet.is_some() {
+        put_arguments(out, labels, device, packet);
+    }
+    out.tell(" -> ", ReplyWords { call, reply });
 }
 
 /// The step on a remove lock or on a cancel slot that a step is.
@@ -82,52 +78,40 @@ fn act_of(act: StepAct) -> Act {
     }
 }
 
-/// A step of a script, its place and what it was answered.
-#[derive(Clone, Copy)]
-pub struct StepWords<'a> {
-    pub step: Step,
-    pub place: usize,
-    pub answer: Answered,
-    pub labels: &'a [String],
-}
-
-impl StepWords<'_> {
-    /// The line of a step that was answered by a remove lock or a cancel slot.
-    fn word_line(&self, reply: WordReply) -> WordLine {
-        WordLine {
-            seat: self.step.seat,
-            step: u32::try_from(self.place).unwrap_or(u32::MAX),
-            act: act_of(self.step.act),
-            reply,
-        }
+/// The line of a step that was answered by a remove lock or a cancel slot.
+fn word_line(step: Step, place: usize, reply: WordReply) -> WordLine {
+    WordLine {
+        seat: step.seat,
+        step: u32::try_from(place).unwrap_or(u32::MAX),
+        act: act_of(step.act),
+        reply,
     }
 }
 
-impl fmt::Display for StepWords<'_> {
-    fn fmt<W: fmt::Write>(&self, f: &mut fmt::Formatter<W>) -> fmt::Result {
-        let reply = match self.answer {
-            Answered::Word(reply) => return write!(f, "{}", WordLineWords(self.word_line(reply))),
-            Answered::Reply(reply) => reply,
-        };
-        write!(f, "step {}  seat {}: ", self.place, self.step.seat)?;
-        let labels = self.labels;
-        match self.step.act {
-            StepAct::Call(call) => write!(
-                f,
-                "{}",
-                CallTold {
-                    call,
-                    reply,
-                    labels
-                }
-            ),
-            StepAct::Allocate { size, label } => {
-                let call = Call::Allocate { size };
-                let named = Named::Label(label);
-                write!(f, "IoAllocateIrp as {}", NamedWords { named, labels })?;
-                write!(f, " -> {}", ReplyWords { call, reply })
-            }
-            _ => Ok(()),
+/// Puts an act that was answered by a reply; nothing of others.
+fn put_act(out: &mut Text, labels: &[String], act: StepAct, reply: Reply) {
+    match act {
+        StepAct::Call(call) => put_call(out, labels, call, reply),
+        StepAct::Allocate { size, label } => {
+            out.put("IoAllocateIrp as ");
+            put_named(out, labels, Named::Label(label));
+            let call = Call::Allocate { size };
+            out.tell(" -> ", ReplyWords { call, reply });
+        }
+        _ => {}
+    }
+}
+
+/// Puts the line of a step of a script: its place and what it was answered.
+pub fn put_step(out: &mut Text, labels: &[String], place: usize, step: Step, answer: Answered) {
+    match answer {
+        Answered::Word(reply) => out.tell("    ", WordLineWords(word_line(step, place, reply))),
+        Answered::Reply(reply) => {
+            out.tell("    step ", place);
+            out.tell("  seat ", step.seat);
+            out.put(": ");
+            put_act(out, labels, step.act, reply);
         }
     }
+    out.end();
 }

@@ -3,13 +3,13 @@
 use crate::acts::deeds_of;
 use crate::kinds::{has_kind, kinds};
 use crate::nodes::Node;
-use crate::part::{Body, Part, Place, Shape};
+use crate::part::{Body, Part, Shape};
 use crate::parts::{noun_of, shape_of};
 use crate::search::{Bounds, Misfit, What};
 use crate::tokens::Kind;
 use crate::words::{Finding, Piece};
 use Piece::{Keys, Letter, Number, Quoted, Say};
-use irp_names::Act;
+use irp_names::{Act, StepPlace};
 use serde_json::Value;
 
 /// Puts what a part may be, behind its noun.
@@ -60,7 +60,7 @@ fn is_behind(other: Option<Act>, act: Act) -> bool {
 fn next_step(part: Part, two: bool, last: Option<Act>) -> Option<Act> {
     let mut found = None;
     for deed in deeds_of(part) {
-        let is_there = !deed.keys.is_empty() && (two || deed.place != Place::FormTwo);
+        let is_there = !deed.keys.is_empty() && (two || deed.act.place() != StepPlace::FormTwo);
         let is_first = match found {
             None => true,
             Some(_) => !is_behind(found, deed.act),

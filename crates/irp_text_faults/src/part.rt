@@ -1,104 +1,7 @@
-//! The parts of scripts and of transcripts' lines, and the forms that they may have.
+//! The forms that parts of scripts and of transcripts' lines may have.
 
+pub use crate::parts::Part;
 use irp_names::Act;
-
-/// A part of a script or of a transcript's line. `parts` says what it may be, and what it is.
-#[derive(Clone, Copy)]
-pub enum Part {
-    Any,
-    Device,
-    DeviceOrNull,
-    Driver,
-    Dispatch,
-    Lock,
-    LockOrNull,
-    Status,
-    Slot,
-    Step,
-    Tag,
-    Location,
-    Routine,
-    CancelRoutine,
-    CancelRoutineOrNull,
-    Seat,
-    Size,
-    Major,
-    Word,
-    Information,
-    Context,
-    Use,
-    Token,
-    EntryNumber,
-    Drained,
-    Cancelled,
-    Cancel,
-    PendingReturned,
-    HasLower,
-    Marked,
-    Mark,
-    Party,
-    Owner,
-    Rule,
-    CancelRule,
-    Flags,
-    Refusal,
-    Packet,
-    Setting,
-    SettingOrNull,
-    Replacement,
-    ReplacementOrNull,
-    Call,
-    Question,
-    Asked,
-    Shown,
-    Plan,
-    Completion,
-    CompletionAnswer,
-    CancelAnswer,
-    Reply,
-    Seen,
-    Entry,
-    WordLine,
-    WordReply,
-    WordStatus,
-    Header,
-    HeaderTwo,
-    Form,
-    Locks,
-    Seats,
-    Slots,
-    Cancels,
-    Completions,
-    Count,
-    Dispatches,
-    Counts,
-    NamedCount,
-    Drivers,
-    Table,
-    Member,
-    DriverMajor,
-    ScriptOne,
-    ScriptTwo,
-    ScriptThree,
-    ScriptStep,
-    ScriptRoutine,
-    Behaviour,
-    ScriptDriver,
-    Handler,
-    HandledMajor,
-    To,
-    Label,
-    LabelOrPair,
-    StepCancel,
-    Condition,
-    Comparison,
-    EarlierStep,
-    Answer,
-    AnswerStatus,
-    AnswerRoutine,
-    AnswerRefusal,
-    AnswerCancelled,
-}
 
 /// What a part may be.
 #[derive(Clone, Copy)]
@@ -150,22 +53,10 @@ pub enum Shape {
 /// A key of an object, and what stands under it.
 pub type Key = (&'static str, Part);
 
-/// Which scripts and transcripts may have a step, and where.
-#[derive(Clone, Copy, PartialEq, Eq)]
-pub enum Place {
-    /// Any of them, in `setup` too.
-    Anywhere,
-    /// Any of them, in `steps` alone: it is on a remove lock.
-    Steps,
-    /// One of form 2 or 3, in `steps` alone.
-    FormTwo,
-}
-
-/// A step, where it may stand, and its keys in a part of such a kind. It has none where it can't be such a part.
+/// A step, and its keys in a part of such a kind. It has none where it can't be such a part.
 #[derive(Clone, Copy)]
 pub struct Deed {
     pub act: Act,
-    pub place: Place,
     pub keys: &'static [Key],
 }
 

@@ -5,9 +5,10 @@ use crate::acts::deeds_of;
 use crate::fits::fits;
 use crate::kinds::{has_kind, kinds};
 use crate::nodes::Node;
-use crate::part::{Body, Deed, Key, Kind, Part, Place, Shape};
+use crate::part::{Body, Deed, Key, Kind, Part, Shape};
 use crate::parts::{noun_of, shape_for};
 use crate::tokens::Kind as TokenKind;
+use irp_names::StepPlace;
 use std::alloc::Global;
 
 /// In what a value stands.
@@ -261,10 +262,10 @@ impl<'t> Search<'t> {
 
     /// Looks at an object of this step, whose word stands here.
     fn look_at_deed(&mut self, node: Node<'t>, word: Node<'t>, part: Part, deed: Deed) {
-        let name = deed.act.word();
-        if deed.place == Place::FormTwo && !self.bounds.two {
+        let (name, place) = (deed.act.word(), deed.act.place());
+        if place == StepPlace::FormTwo && !self.bounds.two {
             self.fails(word, part, What::FormOneHasNo(name));
-        } else if deed.place != Place::Anywhere && self.bounds.text == Text::Setup {
+        } else if place != StepPlace::Anywhere && self.bounds.text == Text::Setup {
             self.fails(word, part, What::SetupHasNo);
         } else {
             self.look_at_keys(node, part, name, deed.keys);

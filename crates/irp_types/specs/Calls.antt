@@ -1,6 +1,7 @@
 -- The calls of the manager, and what they name.
-use Rattle.std.specs.Prelude.{ℕ, Bool, true, false, Option, Some, None}
+use Rattle.std.specs.Prelude.{ℕ, Bool, Option, Some, None, is_some}
 use Rattle.irp_types.specs.declared.names.IrpRef.{IrpRef}
+use Rattle.irp_types.specs.declared.call.Party.{Party}
 use Rattle.irp_types.specs.declared.call.Call.{Call as CallOf}
 use Rattle.irp_types.specs.declared.call.Call.TheVariants.{CreateDevice, Attach, Detach, Delete, Allocate, Free, Reuse}
 use Rattle.irp_types.specs.declared.call.Call.TheVariants.{SetNext, CopyToNext, Skip, SetRoutine, MarkPending}
@@ -32,26 +33,36 @@ packet_named (SetCancelRoutine party irp cancel) = Some irp
 packet_named (Cancel irp) = Some irp
 packet_named (Look irp) = Some irp
 
+-- the party that a call names
+abbrev pub party_named : {P T : Type 0} → CallOf P T → Option Party
+party_named (CreateDevice driver lock) = None
+party_named (Attach device to) = None
+party_named (Detach lower) = None
+party_named (Delete device) = None
+party_named (Allocate size) = None
+party_named (Free irp) = None
+party_named (Reuse irp status) = None
+party_named (SetNext party irp major word) = Some party
+party_named (CopyToNext party irp) = Some party
+party_named (Skip party irp) = Some party
+party_named (SetRoutine party irp setting) = Some party
+party_named (MarkPending party irp) = Some party
+party_named (CallDriver party irp target) = Some party
+party_named (Complete party irp status information) = Some party
+party_named (FinishTaken irp token status information) = None
+party_named (SetCancelRoutine party irp cancel) = Some party
+party_named (Cancel irp) = None
+party_named (Look irp) = None
+
 -- a call that names a party
 abbrev pub names_party : {P T : Type 0} → CallOf P T → Bool
-names_party (CreateDevice driver lock) = false
-names_party (Attach device to) = false
-names_party (Detach lower) = false
-names_party (Delete device) = false
-names_party (Allocate size) = false
-names_party (Free irp) = false
-names_party (Reuse irp status) = false
-names_party (SetNext party irp major word) = true
-names_party (CopyToNext party irp) = true
-names_party (Skip party irp) = true
-names_party (SetRoutine party irp setting) = true
-names_party (MarkPending party irp) = true
-names_party (CallDriver party irp target) = true
-names_party (Complete party irp status information) = true
-names_party (FinishTaken irp token status information) = false
-names_party (SetCancelRoutine party irp cancel) = true
-names_party (Cancel irp) = false
-names_party (Look irp) = false
+names_party call = is_some (party_named call)
+
+-- the packet that a call completes
+abbrev pub packet_completed : {P T : Type 0} → CallOf P T → Option P
+packet_completed (Complete party irp status information) = Some irp
+packet_completed (FinishTaken irp token status information) = Some irp
+packet_completed _ = None
 
 -- the same call with that packet and that token in the places of its own
 abbrev pub call_with : {P T Q U : Type 0} → CallOf P T → Q → U → CallOf Q U

@@ -21,6 +21,15 @@ pub struct Answer {
     pub replacement: Option<Replacement>,
 }
 
+impl Answer {
+    /// It continues, marks nothing, and replaces nothing.
+    pub const CONTINUES: Answer = Answer {
+        keep: false,
+        mark: false,
+        replacement: None,
+    };
+}
+
 /// What a cancel routine answers (WDK: "Implementing a Cancel Routine").
 #[derive(Clone, Copy, PartialEq, Eq, Debug)]
 pub enum CancelAnswer {

@@ -1,7 +1,7 @@
 //! Calls of the manager. Where no page of the WDK is named, the source is this project's own rule.
 
 ghost use Rattle.std.specs.Prelude.{◌≡◌, true, ⊤};
-ghost use Rattle.irp_types.specs.Calls.{packet_named, names_party, call_with};
+ghost use Rattle.irp_types.specs.Calls.{packet_named, party_named, names_party, call_with};
 
 use crate::names::{CancelId, DeviceId, DriverId, IrpRef, LockNo};
 use crate::routine::Setting;
@@ -156,6 +156,23 @@ impl<P: Copy, T: Copy> Call<P, T> {
             | Call::SetCancelRoutine { irp, .. }
             | Call::Cancel { irp }
             | Call::Look { irp } => Some(irp),
+        }
+    }
+
+    /// The party that the call names. None where it names none (docs/RULES.md, Who may do what).
+    pub fn party(self) -> Option<Party>
+        ensures { result ≡ party_named self }
+    {
+        match self {
+            Call::SetNext { party, .. }
+            | Call::CopyToNext { party, .. }
+            | Call::Skip { party, .. }
+            | Call::SetRoutine { party, .. }
+            | Call::MarkPending { party, .. }
+            | Call::CallDriver { party, .. }
+            | Call::Complete { party, .. }
+            | Call::SetCancelRoutine { party, .. } => Some(party),
+            _ => None,
         }
     }
 

@@ -34,7 +34,7 @@ pub use location::{Location, Owner, Preparation};
 pub use names::{CancelId, DeviceId, DispatchId, DriverId, IrpRef, LockNo};
 pub use note::{DrainNote, KnowsNothing};
 pub use questions::{Questions, SharedPlace};
-pub use refusal::Refusal;
+pub use refusal::{Refusal, every_refusal, refusal_meaning, refusal_name};
 pub use reply::{Reply, Seen};
 pub use routine::{CancelRule, Known, RoutineId, Rule, Setting};
 pub use row::Row;

@@ -1,7 +1,7 @@
-//! Why a call is refused. Source: this project's own rule.
+//! Why a call is refused: each refusal, with its number, its name and when it comes. Source: this project's own rule.
 
 ghost use Rattle.std.specs.Prelude.{◌≡◌};
-ghost use Rattle.irp_types.specs.Refusal.{refusal_number};
+ghost use Rattle.irp_types.specs.Refusal.{refusal_meaning, refusal_name, refusal_number, refusals};
 
 /// Why a call is refused; `docs/RULES.md` says when each comes.
 #[derive(Clone, Copy, PartialEq, Eq, Debug)]
@@ -66,41 +66,122 @@ pub enum Refusal {
     NotSlotHeld,
 }
 
+/// A refusal's number, its name, and when it comes.
+fn refusal_row(refusal: Refusal) -> (u32, &'static str, &'static str)
+    ensures number { result.0 ≡ refusal_number refusal }
+    ensures name { result.1.now ≡ refusal_name refusal }
+    ensures meaning { result.2.now ≡ refusal_meaning refusal }
+{
+    match refusal {
+        Refusal::NoIrp => (1, "NoIrp", "no live packet is under this slot"),
+        Refusal::Stale => (2, "Stale", "the packet is in another use by now"),
+        Refusal::NoDevice => (3, "NoDevice", "no such device was created"),
+        Refusal::DeviceGone => (4, "DeviceGone", "the device was deleted"),
+        Refusal::NotOwner => (5, "NotOwner", "the caller doesn't own the packet"),
+        Refusal::NoLocation => (6, "NoLocation", "the originator has no location of its own"),
+        Refusal::NotPrepared => (
+            7,
+            "NotPrepared",
+            "the next location wasn't filled, and the own one wasn't skipped",
+        ),
+        Refusal::AfterSkip => (8, "AfterSkip", "after a skip the owner may only send"),
+        Refusal::TooShort => (9, "TooShort", "too few locations are left"),
+        Refusal::WrongTarget => (
+            10,
+            "WrongTarget",
+            "a device sends to the device just below it alone",
+        ),
+        Refusal::NoRoutine => (11, "NoRoutine", "there is no such routine"),
+        Refusal::BadStatus => (12, "BadStatus", "no packet is completed with this status"),
+        Refusal::CancelRoutineSet => (
+            13,
+            "CancelRoutineSet",
+            "the packet still has a cancel routine",
+        ),
+        Refusal::AlreadyCancelled => (14, "AlreadyCancelled", "the packet was cancelled before"),
+        Refusal::InFlight => (15, "InFlight", "a device still has the packet"),
+        Refusal::StillAttached => (
+            16,
+            "StillAttached",
+            "the device has a neighbour in its stack",
+        ),
+        Refusal::SameStack => (17, "SameStack", "both devices are in one stack"),
+        Refusal::TooDeep => (18, "TooDeep", "the stack would be too deep"),
+        Refusal::Full => (19, "Full", "a limit is reached"),
+        Refusal::NothingAttached => (20, "NothingAttached", "nothing stands above this device"),
+        Refusal::NotDrained => (
+            21,
+            "NotDrained",
+            "the caller doesn't know the remove lock drained",
+        ),
+        Refusal::BadSize => (22, "BadSize", "no packet has so many locations"),
+        Refusal::BadMajor => (23, "BadMajor", "there is no such major function code"),
+        Refusal::NoDriver => (24, "NoDriver", "there is no such driver"),
+        Refusal::Ended => (25, "Ended", "this use has completed"),
+        Refusal::HistoryFull => (26, "HistoryFull", "the history is full"),
+        Refusal::NoLock => (27, "NoLock", "there is no such remove lock"),
+        Refusal::SlotHeld => (28, "SlotHeld", "the packet is kept for a cancel slot"),
+        Refusal::NotSlotHeld => (29, "NotSlotHeld", "the packet is kept for no cancel slot"),
+    }
+}
+
 impl Refusal {
     /// The refusal's number, from 1 to 29, the same in every release.
     pub fn number(self) -> u32
         ensures { result ≡ refusal_number self }
     {
-        match self {
-            Refusal::NoIrp => 1,
-            Refusal::Stale => 2,
-            Refusal::NoDevice => 3,
-            Refusal::DeviceGone => 4,
-            Refusal::NotOwner => 5,
-            Refusal::NoLocation => 6,
-            Refusal::NotPrepared => 7,
-            Refusal::AfterSkip => 8,
-            Refusal::TooShort => 9,
-            Refusal::WrongTarget => 10,
-            Refusal::NoRoutine => 11,
-            Refusal::BadStatus => 12,
-            Refusal::CancelRoutineSet => 13,
-            Refusal::AlreadyCancelled => 14,
-            Refusal::InFlight => 15,
-            Refusal::StillAttached => 16,
-            Refusal::SameStack => 17,
-            Refusal::TooDeep => 18,
-            Refusal::Full => 19,
-            Refusal::NothingAttached => 20,
-            Refusal::NotDrained => 21,
-            Refusal::BadSize => 22,
-            Refusal::BadMajor => 23,
-            Refusal::NoDriver => 24,
-            Refusal::Ended => 25,
-            Refusal::HistoryFull => 26,
-            Refusal::NoLock => 27,
-            Refusal::SlotHeld => 28,
-            Refusal::NotSlotHeld => 29,
-        }
+        refusal_row(self).0
     }
+}
+
+/// The name of a refusal, as transcripts and docs/RULES.md have it. No two refusals have one name.
+pub fn refusal_name(refusal: Refusal) -> &'static str
+    ensures { result.now ≡ refusal_name refusal }
+{
+    refusal_row(refusal).1
+}
+
+/// When a refusal comes, in a few words (docs/RULES.md, Refusals).
+pub fn refusal_meaning(refusal: Refusal) -> &'static str
+    ensures { result.now ≡ refusal_meaning refusal }
+{
+    refusal_row(refusal).2
+}
+
+/// Every refusal, by number, each once.
+#[tactic(auto, unfolding(crate::specs::Refusal::refusals))]
+pub fn every_refusal() -> &'static [Refusal]
+    ensures { result.now ≡ refusals }
+{
+    &[
+        Refusal::NoIrp,
+        Refusal::Stale,
+        Refusal::NoDevice,
+        Refusal::DeviceGone,
+        Refusal::NotOwner,
+        Refusal::NoLocation,
+        Refusal::NotPrepared,
+        Refusal::AfterSkip,
+        Refusal::TooShort,
+        Refusal::WrongTarget,
+        Refusal::NoRoutine,
+        Refusal::BadStatus,
+        Refusal::CancelRoutineSet,
+        Refusal::AlreadyCancelled,
+        Refusal::InFlight,
+        Refusal::StillAttached,
+        Refusal::SameStack,
+        Refusal::TooDeep,
+        Refusal::Full,
+        Refusal::NothingAttached,
+        Refusal::NotDrained,
+        Refusal::BadSize,
+        Refusal::BadMajor,
+        Refusal::NoDriver,
+        Refusal::Ended,
+        Refusal::HistoryFull,
+        Refusal::NoLock,
+        Refusal::SlotHeld,
+        Refusal::NotSlotHeld,
+    ]
 }

@@ -5,45 +5,21 @@ ghost use Rattle.irp_words.specs.Telling.{PrintsWhole};
 
 use crate::ending::Ending;
 use irp_forms::HasName;
-use irp_grammar::keys_of;
 use irp_names::{
-    Act, act_of, major_name, minor_name, plan_names, refusal_meaning, rule_names, status_names,
-    windows_name,
+    Act, PlanKind, major_name, minor_name, mistake_name, refusal_meaning, rule_names, status_names,
 };
 use irp_streams::{Out, put_all};
+use irp_types::Refusal;
 use irp_types::limits::LAST_MAJOR;
-use irp_types::{Call, DeviceId, IrpRef, Party, Refusal, Status};
 use std::alloc::{AllocError, Global};
 
-/// The packet of the calls below.
-const IRP: IrpRef = IrpRef { slot: 0, use_no: 1 };
-
-/// A call of each kind for which a refusal may have a name in Windows.
-static CALLS: [Call; 5] = [
-    Call::Delete {
-        device: DeviceId(0),
-    },
-    Call::Reuse {
-        irp: IRP,
-        status: Status::SUCCESS,
-    },
-    Call::CallDriver {
-        party: Party::Originator,
-        irp: IRP,
-        target: DeviceId(0),
-    },
-    Call::Complete {
-        party: Party::Originator,
-        irp: IRP,
-        status: Status::SUCCESS,
-        information: 0,
-    },
-    Call::FinishTaken {
-        irp: IRP,
-        token: 1,
-        status: Status::SUCCESS,
-        information: 0,
-    },
+/// The steps for whose calls a refusal may have a name in Windows.
+static REFUSED: [Act; 5] = [
+    Act::Delete,
+    Act::Reuse,
+    Act::CallDriver,
+    Act::Complete,
+    Act::FinishTaken,
 ];
 
 /// A text of JSON that is made.
@@ -120,9 +96,9 @@ fn put_act(json: &mut Json, act: Act) {
     json.member(",", "rules", act.rules_name());
     json.put(",\"keys\":");
     let mut before = "[";
-    for key in keys_of(act) {
+    for key in act.keys() {
         json.put(before);
-        json.name(key.word());
+        json.name(key.0);
         before = ",";
     }
     json.put("]}");
@@ -146,6 +122,17 @@ fn put_names(json: &mut Json, names: &[&'static str]) {
     }
 }
 
+/// The kinds of plans.
+fn put_plans(json: &mut Json) {
+    for place in 0..=usize::MAX {
+        let Some(kind) = PlanKind::at(place) else {
+            return;
+        };
+        json.next();
+        json.name(kind.word());
+    }
+}
+
 /// A refusal: its number, its name, when it comes, and its names in Windows by the words of calls.
 fn put_refusal(json: &mut Json, refusal: Refusal) {
     json.next();
@@ -154,9 +141,9 @@ fn put_refusal(json: &mut Json, refusal: Refusal) {
     json.member(",", "meaning", refusal_meaning(refusal));
     json.put(",\"windows\":{");
     let mut before = "";
-    for call in &CALLS {
-        if let Some(name) = windows_name(*call, refusal) {
-            json.member(before, act_of(*call).word(), name);
+    for act in &REFUSED {
+        if let Some(name) = mistake_name(*act, refusal) {
+            json.member(before, act.word(), name);
             before = ",";
         }
     }
@@ -214,7 +201,7 @@ fn text_of_tables(alloc: Global) -> Result<String, AllocError> {
     json.begin("],\n\"rules\":[");
     put_names(&mut json, rule_names());
     json.begin("],\n\"plans\":[");
-    put_names(&mut json, plan_names());
+    put_plans(&mut json);
     json.begin("],\n\"refusals\":[");
     put_refusals(&mut json);
     json.begin("],\n\"statuses\":[");

@@ -1,6 +1,6 @@
 use Rattle.std.proofs.Common.{All}
 use Rattle.irp_slots.specs.Pairing.{IsOwnerOf, IsCancellerOf}
-use Rattle.irp_bench.specs.Slots.{TookMore}
+use Rattle.irp_bench.specs.Bench.{TookMore}
 use Rattle.irp_bench.proofs.pairs.request_all.Given as goal
 
 -- all are owners of these slots, and the canceller has taken a use from each so far

@@ -1,5 +1,0 @@
-use Rattle.std.proofs.Common.{◌≡◌, []}
-use Rattle.irp_bench.proofs.pairs.reference_pairs.Given as goal
-
-abbrev pub invariant-loop-tag : goal.invariant-loop-tag
-invariant-loop-tag l = (l.seat.table ≡ l.initial.seat.table) × (l.seat.number ≡ l.initial.seat.number) × (l.seat.held ≡ [])

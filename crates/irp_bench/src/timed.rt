@@ -1,0 +1,119 @@
+//! What was done in which time, how it is written, and why the program ends before all is timed.
+
+use irp_transcript_reader::ReadFault;
+use std::alloc::{AllocError, AllocFailed};
+use std::num::nearest_u64_to_f64;
+use std::rt::Clock;
+use std::sync::Wait;
+use std::thread::Threads;
+use std::time::Duration;
+use std::{fmt, io};
+
+/// The runtime of the loads that start threads, or wait for a turn.
+pub trait Host: Threads + Wait + Sync + Clock + AllocGlobal {}
+
+impl<R: Threads + Wait + Sync + Clock + AllocGlobal> Host for R {}
+
+/// What is timed, or else why it isn't.
+pub type Timed<T> = Result<T, NotTimed>;
+
+/// Why the program ends before all is timed (this project's own command line, README.md).
+#[derive(Clone, Copy)]
+pub enum NotTimed {
+    /// A transcript was not judged legal.
+    NotLegal,
+    /// Memory ran out.
+    Memory,
+    /// The words are none that the program takes; a request for help is one of these.
+    Usage,
+    /// The clock or standard error failed, or a call or a text was not what it should be.
+    Failed,
+}
+
+impl NotTimed {
+    /// The exit status, and the line for standard error.
+    pub fn told(self) -> (u8, &'static str) {
+        match self {
+            NotTimed::NotLegal => (2, "irp_bench: a transcript was not judged legal"),
+            NotTimed::Memory => (3, "irp_bench: out of memory"),
+            NotTimed::Usage => (
+                4,
+                "irp_bench: usage: irp_bench [locks|slots|calls|write|read|check]",
+            ),
+            NotTimed::Failed => (5, "irp_bench: the clock, the output or a call failed"),
+        }
+    }
+}
+
+impl From<AllocError> for NotTimed {
+    fn from(_error: AllocError) -> NotTimed {
+        NotTimed::Memory
+    }
+}
+
+impl<T: Drop> From<AllocFailed<T>> for NotTimed {
+    fn from(_failed: AllocFailed<T>) -> NotTimed {
+        NotTimed::Memory
+    }
+}
+
+impl From<io::Error> for NotTimed {
+    fn from(_error: io::Error) -> NotTimed {
+        NotTimed::Failed
+    }
+}
+
+impl From<ReadFault> for NotTimed {
+    fn from(fault: ReadFault) -> NotTimed {
+        match fault {
+            ReadFault::Line(_) => NotTimed::Failed,
+            ReadFault::NoMemory => NotTimed::Memory,
+        }
+    }
+}
+
+/// What a load did, and how long it took.
+#[derive(Clone, Copy)]
+pub struct Done {
+    /// How often it did what it is named for. Where there are more threads, each did so many pairs, and all together so
+    /// many calls.
+    count: u32,
+    /// How many bytes the texts have that it wrote or read.
+    bytes: u64,
+    taken: Duration,
+}
+
+impl Done {
+    /// So often, with texts of so many bytes, in this time.
+    pub fn of(count: u32, bytes: u64, taken: Duration) -> Done {
+        Done {
+            count,
+            bytes,
+            taken,
+        }
+    }
+
+    /// The one of both that took less.
+    pub fn min(self, other: Done) -> Done {
+        if other.taken < self.taken {
+            return other;
+        }
+        self
+    }
+
+    /// How many nanoseconds it took each time.
+    pub fn nanoseconds(self) -> f64 {
+        self.taken.as_secs_f64() * 1e9 / f64::from(self.count)
+    }
+}
+
+impl fmt::Display for Done {
+    fn fmt<W: fmt::Write>(&self, f: &mut fmt::Formatter<W>) -> fmt::Result {
+        let each = self.nanoseconds();
+        if self.bytes == 0 {
+            return write!(f, "{each:.1} ns");
+        }
+        let rate = nearest_u64_to_f64(self.bytes) / 1e6 / self.taken.as_secs_f64();
+        write!(f, "{each:.1} ns, {rate:.1} MB a second")
+    }
+}

@@ -1,0 +1,12 @@
+-- What stands under the keys of a script's steps, and in its plans.
+use Rattle.std.specs.Prelude.{ℕ}
+use Rattle.irp_names.specs.declared.parts.Part.{Part}
+use Rattle.irp_names.specs.declared.parts.Part.TheVariants as part
+
+-- the greatest number that it may be
+abbrev pub most : Part → ℕ
+most part.Size = 255
+most part.Major = 255
+most part.Word = 18446744073709551615
+most part.Information = 18446744073709551615
+most others = 4294967295

@@ -1,0 +1,323 @@
+//! Whether a condition holds in some order, or some order doesn't end right, and which order shows it.
+
+ghost use Rattle.std.specs.Prelude.{◌≡◌, ◌<◌, ◌≤◌, ◌↔◌, IfOk, IfSome, IsTrue, false, length, true};
+ghost use Rattle.std.specs.Option.{IsSomeAnd};
+ghost use Rattle.irp_orders.specs.Judging.{
+  AreMarks,
+  Breaks,
+  IsJudged,
+  IsShortestBelow,
+  IsVerdict,
+  steps_at,
+  steps_of,
+  verdict_ending,
+};
+
+use crate::columns::{Columns, orders_of};
+use crate::ending::Ending;
+use crate::facts::meets;
+use crate::found::Found;
+use crate::in_order::put_in_order;
+use crate::right::is_right;
+use crate::such::put_such;
+use crate::table::{put_end, put_head};
+use crate::text::Text;
+use crate::wrongs::put_wrongs;
+use irp_condition::Condition;
+use irp_machine::NotMade;
+use irp_script_reader::{Script, Step};
+use irp_types::Entry;
+use std::alloc::{AllocError, Global};
+
+/// What is asked of the outcomes of a script's orders.
+#[derive(Clone, Copy)]
+pub enum Question<'a> {
+    /// Whether this condition holds of none.
+    Never(&'a Condition),
+    /// Whether each is right, behind the setup that these entries tell.
+    Right(&'a [Entry]),
+}
+
+/// Which outcomes break what is asked of orders, and one of these to be shown.
+#[derive(Drop)]
+pub struct Judgment {
+    /// For each outcome, by its place, whether it does.
+    pub marks: Vec<bool>,
+    /// The one whose order has the fewest steps; of equally long ones, that with the fewest changes of seat.
+    pub shown: Option<usize>,
+}
+
+/// How often the seat changes along an order.
+fn changes_of(path: &[u32]) -> usize {
+    let mut changes = 0usize;
+    let mut last = None;
+    for seat in path {
+        if last != Some(*seat) {
+            changes = changes.saturating_add(1);
+        }
+        last = Some(*seat);
+    }
+    changes
+}
+
+/// Whether the path of an outcome is shorter than another's, or as long with fewer changes of seat.
+fn is_shorter(one: &Found, other: &Found) -> bool
+    ensures short { result ≡ true → steps_of one.now ≤ steps_of other.now }
+    ensures long { result ≡ false → steps_of other.now ≤ steps_of one.now }
+{
+    let (path, longer) = (&one.outcome.path, &other.outcome.path);
+    if path.len() != longer.len() {
+        return path.len() < longer.len();
+    }
+    changes_of(path.as_slice()) < changes_of(longer.as_slice())
+}
+
+/// Whether the path of the outcome at a place is shorter than that of the best one so far, or there is none so far.
+fn is_better(founds: &[Found], place: usize, best: Option<usize>) -> bool
+    requires place { place < length founds.now }
+    requires best { IfSome best (λ best. best < length founds.now) }
+    ensures better { result ≡ true
+        → IfSome best (λ best. steps_at founds.now place ≤ steps_at founds.now best) }
+    ensures worse { result ≡ false
+        → IsSomeAnd best (λ best. steps_at founds.now best ≤ steps_at founds.now place) }
+{
+    match best {
+        Some(best) => is_shorter(&founds[place], &founds[best]),
+        None => true,
+    }
+}
+
+/// The place of the marked outcome with the shortest path.
+fn shortest(founds: &[Found], marks: &[bool]) -> Option<usize>
+    requires { length marks.now ≡ length founds.now }
+    ensures { IsShortestBelow founds.now marks.now (length founds.now) result }
+{
+    let mut best: Option<usize> = None;
+    for place in 0..founds.len() {
+        if marks[place] && is_better(founds, place, best) {
+            best = Some(place);
+        }
+    }
+    best
+}
+
+/// Whether an outcome breaks what is asked. The one error is want of memory.
+#[tactic(auto, using(crate::proofs::Righting::wrong_mark))]
+fn breaks(
+    alloc: Global,
+    steps: &[Step],
+    question: Question<'_>,
+    found: &Found,
+) -> Result<bool, AllocError>
+    ensures { IfOk result (λ does. IsTrue does ↔ Breaks steps.now question.entry found.now) }
+{
+    match question {
+        Question::Never(condition) => meets(alloc, steps, &found.outcome.end, condition),
+        Question::Right(setup) => {
+            let is_right = is_right(alloc, steps, setup, &found.outcome.end)?;
+            Ok(!is_right)
+        }
+    }
+}
+
+/// For each outcome whether it breaks what is asked. The one error is want of memory.
+fn marks_of(
+    alloc: Global,
+    steps: &[Step],
+    founds: &[Found],
+    question: Question<'_>,
+) -> Result<Vec<bool>, AllocError>
+    ensures { IfOk result (λ marks.
+        AreMarks (Breaks steps.now question.entry) founds.now marks.items) }
+{
+    let mut marks = Vec::new(alloc);
+    for found in founds {
+        let is_broken = breaks(alloc, steps, question, found)?;
+        marks.push(is_broken)?;
+    }
+    Ok(marks)
+}
+
+/// Judges the outcomes of a script with these steps by what is asked. The one error is want of memory.
+pub fn judged(
+    alloc: Global,
+    steps: &[Step],
+    founds: &[Found],
+    question: Question<'_>,
+) -> Result<Judgment, AllocError>
+    ensures marks { IfOk result (λ judged.
+        AreMarks (Breaks steps.now question.entry) founds.now judged.marks.items) }
+    ensures verdict { IfOk result (λ judged.
+        IsVerdict (Breaks steps.now question.entry) founds.now judged.shown) }
+{
+    let marks = marks_of(alloc, steps, founds, question)?;
+    let shown = shortest(founds, marks.as_slice());
+    Ok(Judgment { marks, shown })
+}
+
+/// Puts the seats of an order's atomic steps, one after another.
+fn put_seats(out: &mut Text, path: &[u32]) {
+    out.put("    the seats of its atomic steps:");
+    for seat in path {
+        out.tell(" ", *seat);
+    }
+    out.end();
+}
+
+/// How many of the outcomes are marked, and how many orders lead to these.
+fn marked(founds: &[Found], marks: &[bool]) -> (usize, u128) {
+    let (mut outcomes, mut orders) = (0usize, 0u128);
+    for (found, mark) in founds.iter().zip(marks.iter()) {
+        if *mark {
+            outcomes = outcomes.saturating_add(1);
+            orders = orders.saturating_add(found.orders);
+        }
+    }
+    (outcomes, orders)
+}
+
+/// Puts an outcome with each step of its order, one after another.
+///
+/// # Errors
+///
+/// `NoStep` where its order can't be made again; `Memory` where memory ran out.
+fn put_shown(
+    alloc: Global,
+    out: &mut Text,
+    columns: &Columns<'_>,
+    place: usize,
+    found: &Found,
+) -> Result<(), NotMade> {
+    let path = found.outcome.path.as_slice();
+    put_head(out, columns, place.saturating_add(1), found);
+    put_in_order(alloc, out, columns, path)?;
+    put_end(out, columns, found);
+    put_seats(out, path);
+    Ok(())
+}
+
+/// What is told where no outcome breaks what is asked. The one error is want of memory.
+fn told_kept(
+    alloc: Global,
+    founds: &[Found],
+    question: Question<'_>,
+) -> Result<Vec<u8>, AllocError> {
+    let mut out = Text::new(alloc);
+    out.tell(
+        match question {
+            Question::Never(_) => "never: it holds in none of ",
+            Question::Right(_) => "right: ",
+        },
+        orders_of(founds),
+    );
+    out.tell(" orders, ", founds.len());
+    out.put(" outcomes");
+    out.end();
+    out.finish()
+}
+
+/// Puts how many outcomes break what is asked, and how many orders lead to these.
+fn put_counts(out: &mut Text, founds: &[Found], question: Question<'_>, marks: &[bool]) {
+    let (outcomes, orders) = marked(founds, marks);
+    out.tell(
+        match question {
+            Question::Never(_) => "it holds in ",
+            Question::Right(_) => "not right in ",
+        },
+        orders,
+    );
+    out.tell(" of ", orders_of(founds));
+    out.tell(" orders, ", outcomes);
+    out.tell(" of ", founds.len());
+    out.put(" outcomes; one of them:");
+    out.end();
+}
+
+/// These lines, with those of the outcome at a place, which shows that what is asked is broken, and why.
+///
+/// # Errors
+///
+/// `NoStep` where its order can't be made again; `Memory` where memory ran out.
+fn with_shown(
+    alloc: Global,
+    mut out: Text,
+    columns: &Columns<'_>,
+    question: Question<'_>,
+    place: usize,
+    found: &Found,
+) -> Result<Vec<u8>, NotMade> {
+    put_shown(alloc, &mut out, columns, place, found)?;
+    match question {
+        Question::Never(_) => Ok(out.finish()?),
+        Question::Right(setup) => {
+            put_wrongs(&mut out, columns, setup, found);
+            let mut text = out.finish()?;
+            put_such(alloc, &mut text, columns.script, &found.outcome.end)?;
+            Ok(text)
+        }
+    }
+}
+
+/// What is told where the outcome at a place shows that what is asked is broken.
+///
+/// # Errors
+///
+/// Those of `with_shown`.
+fn told_broken(
+    alloc: Global,
+    columns: &Columns<'_>,
+    founds: &[Found],
+    question: Question<'_>,
+    judged: &Judgment,
+    place: usize,
+) -> Result<Vec<u8>, NotMade> {
+    let mut out = Text::new(alloc);
+    put_counts(&mut out, founds, question, judged.marks.as_slice());
+    match founds.get(place) {
+        Some(found) => with_shown(alloc, out, columns, question, place, found),
+        None => Ok(out.finish()?),
+    }
+}
+
+/// What is told of what was judged, and how the program ends then.
+///
+/// # Errors
+///
+/// `NoStep` where the order that is shown can't be made again; `Memory` where memory ran out.
+fn told(
+    alloc: Global,
+    columns: &Columns<'_>,
+    founds: &[Found],
+    question: Question<'_>,
+    judged: &Judgment,
+) -> Result<(Vec<u8>, Ending), NotMade>
+    ensures { IfOk result (λ told. told.1 ≡ verdict_ending judged.now.shown) }
+{
+    match judged.shown {
+        None => Ok((told_kept(alloc, founds, question)?, Ending::Done)),
+        Some(place) => {
+            let text = told_broken(alloc, columns, founds, question, judged, place)?;
+            Ok((text, Ending::Broken))
+        }
+    }
+}
+
+/// What is told of the outcomes of a script's orders by what is asked of them, and how the program ends then.
+///
+/// # Errors
+///
+/// `NoStep` where the order that is shown can't be made again; `Memory` where memory ran out.
+pub fn answered(
+    alloc: Global,
+    script: &Script,
+    founds: &[Found],
+    question: Question<'_>,
+) -> Result<(Vec<u8>, Ending), NotMade>
+    ensures { IfOk result (λ told.
+        IsJudged (Breaks script.now.steps question.entry) founds.now told.1) }
+{
+    let judged = judged(alloc, script.parts().steps.as_slice(), founds, question)?;
+    let columns = Columns::of(alloc, script, founds)?;
+    let told = told(alloc, &columns, founds, question, &judged)?;
+    Ok(told)
+}
