@@ -15,7 +15,7 @@ use Rattle.irp_fast_reader.specs.declared.reader.Reader.{Reader}
 use Rattle.irp_fast_reader.proofs.Blocks.{Cut, cut_onward}
 use Rattle.irp_fast_reader.proofs.Whole.{refused_last}
 use Rattle.irp_feed.specs.Input.{Bytes, IsInput, TakesAtMost, most_bytes, most_taken}
-use Rattle.irp_feed.specs.Feeding.{AreAllBefore, Drains, Fails, FailsBehind, HoldsNone, IsHopeless, IsNoneOf, IsSoFar, IsTextOfNone, SayFirst, StartsNone, line_in, piece_of, refused_line, unfed_of}
+use Rattle.irp_feed.specs.Feeding.{AreAllBefore, Drains, Fails, FailsBehind, HoldsNone, IsHopeless, IsNoneOf, IsSoFar, IsTextOfNone, SayFirst, Stops, line_in, piece_of, refused_line, unfed_of}
 use Rattle.irp_feed.specs.declared.input.InputFailed.{InputFailed}
 use Rattle.irp_feed.specs.declared.unfed.RefusedLine.{RefusedLine}
 use Rattle.irp_feed.proofs.Pieces.{reads_on}
@@ -132,7 +132,7 @@ refused_of (LineFault line) text reads = reads
 refused_of FaultMemory text reads = tt
 
 -- the input is at its end, and its text is refused
-none_of_end : (line : Option ℕ) (old now : Bytes) (text : List ℕ) → IsInput old now text → IsTextOfNone text line → IsNoneOf old now text line
+pub none_of_end : (line : Option ℕ) (old now : Bytes) (text : List ℕ) → IsInput old now text → IsTextOfNone text line → IsNoneOf old now text line
 none_of_end (Some line) old now text input none = (input, none)
 none_of_end None old now text input none = tt
 
@@ -166,13 +166,13 @@ refused_fails line has_newline old now text all hopeless = record {
 pub input_fails : (failed : InputFailed) (old now : Bytes) (text : List ℕ) → Drains (Err failed) old now text → FailsBehind text old now None
 input_fails failed old now text part = record { more = part.0; none = tt; few = part.1; took = part.2 }
 
--- there is no next block, and the text isn't read
-pub next_ended : (line : Option ℕ) (old now : Bytes) (left : ℕ) (text : List ℕ) → IsSoFar old now left text → IsAtEnd now → IsTextOfNone text line → FailsBehind text old now line
-next_ended line old now left text so_far end none =
+-- no more is taken
+pub behind_none : (line : Option ℕ) (old now : Bytes) (left : ℕ) (text : List ℕ) → IsSoFar old now left text → IsNoneOf old now text line → FailsBehind text old now line
+behind_none line old now left text so_far none =
     let whole : text ++ [] ≡ text = append-nil text in
     record {
       more = [];
-      none = subst (λ (given : List ℕ). IsNoneOf old now given line) (sym whole) (none_of_end line old now text (is_input old now left text so_far end) none);
+      none = subst (λ (given : List ℕ). IsNoneOf old now given line) (sym whole) none;
       few = subst (λ (given : List ℕ). length given ≤ most_taken) (sym whole) (omega (arith, so_far.count));
       took = subst (Consumes old now) (sym whole) so_far.took;
     }
@@ -182,41 +182,23 @@ holds_none : (line : Option ℕ) (old now : Bytes) (text : List ℕ) → IsNoneO
 holds_none (Some line) old now text none = (text, none.0, none.1)
 holds_none None old now text none = tt
 
-pub fails_of : (line : Option ℕ) (text : List ℕ) (old now : Bytes) → FailsBehind text old now line → Fails old now line
-fails_of line text old now behind = (holds_none line old now (text ++ behind.more) behind.none, (text ++ behind.more, behind.few, behind.took))
+pub fails_of : (line : Option ℕ) (old now : Bytes) (transcript : TranscriptValue) → Stops old now line transcript → Fails old now line
+fails_of line old now transcript stops = (holds_none line old now stops.first.text stops.none, (stops.first.text, stops.first.few, stops.first.took))
 
--- ---- no header
-
-pub fails_at_start : (line : Option ℕ) (old now : Bytes) → StartsNone old now line → Fails old now line
-fails_at_start line old now starts = (holds_none line old now starts.text starts.none, (starts.text, starts.few, starts.took))
-
--- the lines of the text say nothing, and it isn't read on
-pub starts_unread : (line : Option ℕ) (text : List ℕ) (old now : Bytes) → TakesAll no_lines (cut text).0 no_lines → AreAllBefore line (length (cut text).0)
-    → FailsBehind text old now line → StartsNone old now line
-starts_unread line text old now taken all behind = record {
-  text = text ++ behind.more;
+-- so many lines of a text say this transcript
+pub stops_behind : (line : Option ℕ) (count : ℕ) (text : List ℕ) (transcript : TranscriptValue) (old now : Bytes) → AreAllBefore line count → SayFirst count text transcript
+    → FailsBehind text old now line → Stops old now line transcript
+stops_behind line count text transcript old now all say behind = record {
+  first = record {
+    text = text ++ behind.more;
+    few = behind.few;
+    took = behind.took;
+    count = count;
+    say = say_more count text behind.more transcript say;
+  };
   none = behind.none;
-  few = behind.few;
-  took = behind.took;
-  count = length (cut text).0;
   all = all;
-  say = say_more (length (cut text).0) text behind.more no_lines (say_all text no_lines taken);
 }
-
--- the first line is refused
-pub starts_refused : (line told : Option ℕ) (text block : List ℕ) (old now : Bytes) → ((count : ℕ) → AreAllBefore line count → AreAllBefore told count)
-    → TakesAll no_lines (cut text).0 no_lines → AreAllBefore line (length (cut text).0) → FailsBehind (text ++ block) old now told → StartsNone old now told
-starts_refused line told text block old now same taken all behind =
-    let say : SayFirst (length (cut text).0) (text ++ block) no_lines = say_more (length (cut text).0) text block no_lines (say_all text no_lines taken) in
-    record {
-      text = (text ++ block) ++ behind.more;
-      none = behind.none;
-      few = behind.few;
-      took = behind.took;
-      count = length (cut text).0;
-      all = same (length (cut text).0) all;
-      say = say_more (length (cut text).0) (text ++ block) behind.more no_lines say;
-    }
 
 -- ---- pieces of a buffer
 

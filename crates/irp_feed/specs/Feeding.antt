@@ -3,6 +3,7 @@ use Rattle.std.specs.Prelude.{ℕ, ◌≡◌, ◌+◌, ◌-◌, ◌≤◌, List,
 use Rattle.std.specs.Io.KnownBytes.{Consumes}
 use Rattle.irp_transcript.specs.Headers.{IsHeader}
 use Rattle.irp_transcript.specs.Transcripts.{TranscriptValue, no_lines}
+use Rattle.irp_transcript.specs.declared.header.Header.{Header}
 use Rattle.irp_transcript_reader.specs.Reading.{TakesAll, cut, with_line}
 use Rattle.irp_transcript_reader.specs.declared.read_fault.ReadFault.{ReadFault}
 use Rattle.irp_transcript_reader.specs.declared.read_fault.ReadFault.TheVariants as faults
@@ -14,7 +15,7 @@ use Rattle.irp_feed.specs.declared.header.Start.{Start}
 use Rattle.irp_feed.specs.declared.input.InputFailed.{InputFailed}
 use Rattle.irp_feed.specs.declared.unfed.RefusedLine.{RefusedLine}
 use Rattle.irp_feed.specs.declared.unfed.Unfed.{Unfed}
-use Rattle.irp_feed.specs.declared.unfed.Unfed.TheVariants.{Input as InputFails, Refused, NoMemory, NotTaken}
+use Rattle.irp_feed.specs.declared.unfed.Unfed.TheVariants.{Refused, NoMemory}
 
 -- ---- lines
 
@@ -46,6 +47,10 @@ IsHopeless None text = Unit {0}
 abbrev pub AreAllBefore : Option ℕ → ℕ → Type 0
 AreAllBefore (Some line) count = line ≡ count + 1
 AreAllBefore None count = Unit {0}
+
+-- a header, and no line behind it
+abbrev pub header_alone : Header → TranscriptValue
+header_alone header = with_line no_lines (HeaderLine header)
 
 -- so many first lines of a text say this transcript
 abbrev pub SayFirst : ℕ → List ℕ → TranscriptValue → Type 0
@@ -86,15 +91,19 @@ pub record FailsBehind (text : List ℕ) (old new : Bytes) (line : Option ℕ) :
   pub few : length (text ++ more) ≤ most_taken
   pub took : Consumes old new (text ++ more)
 
--- the same where no header was read: the lines before the one that is refused say nothing
-pub record StartsNone (old new : Bytes) (line : Option ℕ) : Type 0 where
+-- this was taken of the input, and not too much of it; so many first lines say this transcript
+pub record TakesFirst (old new : Bytes) (transcript : TranscriptValue) : Type 0 where
   pub text : List ℕ
-  pub none : IsNoneOf old new text line
   pub few : length text ≤ most_taken
   pub took : Consumes old new text
   pub count : ℕ
-  pub all : AreAllBefore line count
-  pub say : SayFirst count text no_lines
+  pub say : SayFirst count text transcript
+
+-- the input isn't read to its end: a line that is refused is the first one of its text, behind those of this transcript
+pub record Stops (old new : Bytes) (line : Option ℕ) (transcript : TranscriptValue) : Type 0 where
+  pub first : TakesFirst old new transcript
+  pub none : IsNoneOf old new first.text line
+  pub all : AreAllBefore line first.count
 
 -- a piece of a buffer
 abbrev pub piece_of : List ℕ → ℕ → ℕ → List ℕ
@@ -103,7 +112,7 @@ piece_of buffer from to = take (to - from) (drop from buffer)
 -- the header was read; the block ends where the text that was taken does
 pub record Starts (old new : Bytes) (start : Start) (reader : Reader) (buffer : List ℕ) : Type 0 where
   pub text : List ℕ
-  pub read : HasRead reader text (with_line no_lines (HeaderLine start.header))
+  pub read : HasRead reader text (header_alone start.header)
   pub accepted : IsHeader start.header
   pub order : start.from ≤ start.to
   pub within : start.to ≤ length buffer
@@ -122,38 +131,40 @@ NextBlock (Err unfed) old now left buffer text before =
 abbrev pub IsStart : Bytes → Bytes → Result (Option Start) Unfed → Reader → List ℕ → Type 0
 IsStart old new (Ok None) reader buffer = Holds old new no_lines
 IsStart old new (Ok (Some start)) reader buffer = Starts old new start reader buffer
-IsStart old new (Err unfed) reader buffer = StartsNone old new (refused_line unfed)
+IsStart old new (Err unfed) reader buffer = Stops old new (refused_line unfed) no_lines
 
 -- ---- what takes the lines
 
--- what takes lines, and what stays meanwhile, was given the lines of a transcript, where `taken` says that
-module _ {S F : Type 0} (taken : S → F → TranscriptValue → Type 0) where
-  -- it was given the lines of this text
-  pub record AreTaken (reader : Reader) (sink : S) (fixed : F) (text : List ℕ) : Type 0 where
-    pub transcript : TranscriptValue
-    pub read : HasRead reader text transcript
-    pub few : length transcript.words ≤ length text
-    pub are : taken sink fixed transcript
+-- a reader was fed this text, whose lines make this transcript, of few word lines
+pub record AreRead (reader : Reader) (text : List ℕ) (transcript : TranscriptValue) : Type 0 where
+  pub read : HasRead reader text transcript
+  pub few : length transcript.words ≤ length text
 
-  -- it was given the lines before the one that is refused; where none is, some first lines
-  pub record AreTakenBefore (line : Option ℕ) (sink : S) (fixed : F) (text : List ℕ) : Type 0 where
-    pub count : ℕ
-    pub all : AreAllBefore line count
-    pub transcript : TranscriptValue
-    pub say : SayFirst count text transcript
-    pub are : taken sink fixed transcript
+-- the lines of a text were read; or a line isn't, behind so many, whatever follows the text
+abbrev pub ReadsLines : Result (Unit {0}) Unfed → Reader → List ℕ → TranscriptValue → ℕ → Type 0
+ReadsLines (Ok done) reader text transcript count = AreRead reader text transcript
+ReadsLines (Err unfed) reader text transcript count =
+    IsHopeless (refused_line unfed) text × AreAllBefore (refused_line unfed) count
 
-  -- what becomes of one more block: no input is read there; where memory ran out for what takes the lines, nothing is
-  -- known of that
-  abbrev pub FeedsBlock : Result (Unit {0}) Unfed → Reader → S → F → List ℕ → Type 0
-  FeedsBlock (Ok done) reader sink fixed text = AreTaken reader sink fixed text
-  FeedsBlock (Err InputFails) reader sink fixed text = ⊥
-  FeedsBlock (Err NotTaken) reader sink fixed text = Unit {0}
-  FeedsBlock (Err unfed) reader sink fixed text =
-      IsHopeless (refused_line unfed) text × AreTakenBefore (refused_line unfed) sink fixed text
+-- the lines that were read were taken
+pub record AreTaken (read : Result (Unit {0}) Unfed) (reader : Reader) (taken : TranscriptValue → Type 0)
+    (text : List ℕ) : Type 0 where
+  pub transcript : TranscriptValue
+  pub count : ℕ
+  pub say : SayFirst count text transcript
+  pub are : taken transcript
+  pub reads : ReadsLines read reader text transcript count
 
-  -- it was given all lines of the transcript that the input holds; or why that holds none
-  abbrev pub FeedsRest : Result (Unit {0}) Unfed → Bytes → Bytes → S → F → Type 0
-  FeedsRest (Ok done) old new sink fixed =
-      (transcript : TranscriptValue) × Holds old new transcript × taken sink fixed transcript
-  FeedsRest (Err unfed) old new sink fixed = Fails old new (refused_line unfed)
+-- what becomes of one more block; where memory ran out for what takes the lines, this is left of the blocks before it
+abbrev pub FeedsBlock : {E : Type 0} → Result (Result (Unit {0}) Unfed) E → Reader → (TranscriptValue → Type 0)
+    → Type 0 → List ℕ → Type 0
+FeedsBlock (Ok read) reader taken left text = AreTaken read reader taken text
+FeedsBlock (Err error) reader taken left text = left
+
+-- all lines of the transcript that the input holds were taken; or why that holds none, and what is left of first lines
+abbrev pub FeedsRest : Result (Unit {0}) Unfed → Bytes → Bytes → (TranscriptValue → Type 0)
+    → (TranscriptValue → Type 0) → Type 0
+FeedsRest (Ok done) old new taken left =
+    (transcript : TranscriptValue) × Holds old new transcript × taken transcript
+FeedsRest (Err unfed) old new taken left =
+    (transcript : TranscriptValue) × Stops old new (refused_line unfed) transcript × left transcript

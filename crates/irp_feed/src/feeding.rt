@@ -1,19 +1,17 @@
 //! The lines behind the header of a text.
 
 ghost use Rattle.std.specs.Prelude.{ℕ, ◌≡◌, ◌<◌, ◌≤◌, ◌+◌, List, ◌++◌, length, IfOk, IfSome};
-ghost use Rattle.irp_transcript_reader.specs.declared.line.Line.TheVariants.{Header as HeaderLine};
-ghost use Rattle.irp_transcript_reader.specs.Reading.{with_line};
 ghost use Rattle.irp_fast_reader.specs.Fed.{HasRead};
-ghost use Rattle.irp_transcript.specs.Transcripts.{TranscriptValue, no_lines};
+ghost use Rattle.irp_transcript.specs.Transcripts.{TranscriptValue};
 ghost use Rattle.irp_feed.specs.Input.{Bytes, most_bytes};
-ghost use Rattle.irp_feed.specs.Feeding.{AreAllBefore, AreTaken, FailsBehind, FeedsBlock, FeedsRest, IsHopeless, IsSoFar, NextBlock, Starts, refused_line};
+ghost use Rattle.irp_feed.specs.Feeding.{AreAllBefore, AreRead, FailsBehind, FeedsBlock, FeedsRest, IsHopeless, IsSoFar, NextBlock, Starts, header_alone, refused_line};
 
 use crate::header::Start;
 use crate::input::{drain, take_block};
 use crate::sink::LineSink;
 use crate::unfed::{RefusedLine, Unfed, refused_in};
 use irp_fast_reader::Reader;
-use std::alloc::Global;
+use std::alloc::{AllocError, Global};
 use std::io::Read;
 
 /// What the line is that a reader refused in a block, where so many bytes of it stood before the block.
@@ -70,52 +68,57 @@ pub fn next_block<R: Read>(
     }
 }
 
-/// Reads the lines that end in a block, behind the header of a text, and gives each to the sink.
+/// Reads the lines that end in a block, behind the header of a text, and gives each to the sink; tells why a line of them
+/// isn't read, whatever follows the block. Then the sink has taken the lines before that one.
 ///
 /// # Errors
 ///
-/// `Refused` where a line is refused, whatever follows the block; `NoMemory` where memory ran out for reading a line. The
-/// sink has taken the lines before that one. `NotTaken` where memory ran out for the sink.
-pub fn feed_block<S: LineSink>(
+/// `AllocError` where memory ran out for the sink.
+fn feed_block<O, S: LineSink<O>>(
     alloc: Global,
     reader: &mut Reader,
     sink: &mut S,
     block: &[u8],
-) -> Result<(), Unfed>
-    ensures { (fixed : S.Fixed) (text : List ℕ) → AreTaken S.has_taken reader.old sink.old fixed text
+) -> Result<Result<(), Unfed>, AllocError>
+    ensures { (output : O) (fixed : S.Fixed) (ended : TranscriptValue) (text : List ℕ)
+        → AreRead reader.old text ended → S.has_taken sink.old output fixed ended ended
         → length text + length block.now ≤ most_bytes
-        → FeedsBlock S.has_taken result reader.new sink.new fixed (text ++ block.now) }
+        → FeedsBlock result reader.new (S.has_taken sink.new output fixed ended)
+        (S.has_left sink.new output fixed ended) (text ++ block.now) }
 {
     let begun = reader.begun().len();
     let mut rest = block;
     while !rest.is_empty() {
         let (line, count) = match reader.next(alloc, rest) {
             Ok(Some(taken)) => taken,
-            Ok(None) => return Ok(()),
+            Ok(None) => return Ok(Ok(())),
             Err(fault) => {
                 let refused = refused_next(alloc, reader, begun, rest);
-                return Err(Unfed::of(fault, refused));
+                return Ok(Err(Unfed::of(fault, refused)));
             }
         };
         match sink.take(line) {
             Ok(()) => {}
-            Err(_) => return Err(Unfed::NotTaken),
+            Err(error) => return Err(error),
         }
         rest = &rest[count..];
     }
-    Ok(())
+    Ok(Ok(()))
 }
 
-/// Reads what follows the header of a text, up to the end of the input, and gives each line to the sink.
+/// Reads what follows the header of a text, up to the end of the input, and gives each line to the sink; at the end of
+/// each block the sink gives the output what it has.
 ///
 /// # Errors
 ///
 /// `Refused` with the number of the first line that is refused; `Input` where the input failed, or has more than
 /// 1,073,741,824 bytes; `NoMemory` and `NotTaken` where memory ran out. The input was taken to its end, unless it failed,
-/// and at most 1,073,741,825 bytes of it.
-pub fn feed_rest<R: Read, S: LineSink>(
+/// and at most 1,073,741,825 bytes of it. `NotTaken` also where the sink takes no more at the end of a block: then no more
+/// is taken of the input.
+pub fn feed_rest<R: Read, O, S: LineSink<O>>(
     alloc: Global,
     input: &mut R,
+    output: &mut O,
     buffer: &mut [u8],
     reader: &mut Reader,
     start: &Start,
@@ -127,12 +130,21 @@ pub fn feed_rest<R: Read, S: LineSink>(
     requires few { start.now.left ≤ most_bytes }
     ensures { (old : Bytes) (fixed : S.Fixed)
         → Starts old (R.remaining input.old) start.now reader.old buffer.old
-        → S.has_taken sink.old fixed (with_line no_lines (HeaderLine start.now.header))
-        → FeedsRest S.has_taken result old (R.remaining input.new) sink.new fixed }
+        → S.has_taken sink.old output.old fixed (header_alone start.now.header)
+        (header_alone start.now.header)
+        → FeedsRest result old (R.remaining input.new)
+        (λ transcript. S.has_taken sink.new output.new fixed transcript transcript)
+        (S.has_left sink.new output.new fixed) }
 {
     let (mut from, mut to, mut left) = (start.from, start.to, start.left);
     loop {
-        if let Err(unfed) = feed_block(alloc, reader, sink, &buffer[from..to]) {
+        let Ok(read) = feed_block(alloc, reader, sink, &buffer[from..to]) else {
+            return Err(refuse(input, buffer, left, Unfed::NotTaken));
+        };
+        if !sink.end_block(output) {
+            return Err(Unfed::NotTaken);
+        }
+        if let Err(unfed) = read {
             return Err(refuse(input, buffer, left, unfed));
         }
         from = 0;

@@ -29,7 +29,7 @@ pub enum Unfed {
     Refused { line: u64, refused: RefusedLine },
     /// Memory ran out for reading a line.
     NoMemory,
-    /// Memory ran out for what takes the lines.
+    /// What takes the lines takes no more: memory ran out for it, or its output failed.
     NotTaken,
 }
 

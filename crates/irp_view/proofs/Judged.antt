@@ -1,5 +1,5 @@
 -- A transcript that is judged line after line.
-use Rattle.std.proofs.Common.{◌≡◌, suc, zero, inl, inr, true, false, is_some, slice_get, ◌∷◌, ℕ, ◌+◌, ◌<◌, ◌≤◌, List, [], ◌++◌, length, IfOk, OnOk, Option, Some, None, Result, Ok, Err, refl, sym, subst, ap, ◌∙◌, arith, length-append}
+use Rattle.std.proofs.Common.{◌≡◌, suc, zero, inl, inr, true, false, is_some, slice_get, ◌∷◌, ℕ, ◌+◌, ◌<◌, ◌≤◌, List, [], ◌++◌, length, IfOk, OnOk, MatchResult, Option, Some, None, Result, Ok, Err, refl, sym, subst, ap, ◌∙◌, arith, length-append}
 use Rattle.std.proofs.lemmas.Bool.{cases_lt}
 use Rattle.std.proofs.lemmas.List.{take-append-le}
 use Rattle.std.proofs.lemmas.Option.{none-some, slice_get_within}
@@ -12,7 +12,7 @@ use Rattle.irp_transcript.specs.declared.header.Header.{Header}
 use Rattle.irp_fast_reader.specs.Fed.{IsInPlace}
 use Rattle.irp_transcript_reader.specs.Reading.{with_line}
 use Rattle.irp_transcript_reader.specs.declared.line.Line.{Line}
-use Rattle.irp_transcript_reader.specs.declared.line.Line.TheVariants.{Header as HeaderLine}
+use Rattle.irp_feed.specs.Feeding.{header_alone}
 use Rattle.irp_feed.specs.Input.{Bytes}
 use Rattle.irp_feed.proofs.Fed.{header_stays}
 use Rattle.irp_judge.specs.declared.verdict.Verdict.TheVariants.{Illegal}
@@ -115,7 +115,7 @@ kept_none (Some wrong) = refl
 
 -- behind the header nothing was judged
 pub starts_judged : (judge : JudgeValue) (kept : Kept) (header : Header) → judge.header ≡ header → HasJudged judge [] → kept.words ≡ 0 → AreDrafted kept.draft []
-    → HasNoted kept.refused [] → kept.entry ≡ None → IsJudged judge kept (choice_of kept.draft) (with_line no_lines (HeaderLine header))
+    → HasNoted kept.refused [] → kept.entry ≡ None → IsJudged judge kept (choice_of kept.draft) (header_alone header)
 starts_judged judge kept header same judged words drafted noted none = record {
   header = subst (λ (given : Header). Some header ≡ Some given) (sym same) refl;
   judged = judged;
@@ -131,7 +131,7 @@ pub judged_on : {E : Type 0} (result : Result (Unit {0}) E) (old new : JudgeValu
     → IsJudged old kept choice before → IsInPlace before line → new.header ≡ old.header → choice_of then.draft ≡ choice
     → AreDrafted then.draft (with_line before line).entries → HasNoted then.refused (with_line before line).entries
     → OnOk result (HasJudged new (with_line before line).entries × IsKept (with_line before line).entries new.wrong then.entry × (then.words ≡ length (with_line before line).words))
-    → OnOk result (IsJudged new then choice (with_line before line))
+    → MatchResult result (λ done. IsJudged new then choice (with_line before line)) (λ error. Unit {0})
 judged_on (Ok done) old new kept then choice before line was place header chosen drafted noted fed = record {
   header = header_stays before line old.header place was.header ∙ ap (λ (given : Header). Some given) (sym header);
   judged = fed.0;

@@ -1,20 +1,14 @@
 -- A transcript that is shown while its text is read, block after block.
-use Rattle.std.proofs.Common.{◌≡◌, ℕ, List, [], ◌++◌, length, Option, Some, None, OnOk, Result, Ok, Err, refl, sym, subst, ap, ◌∙◌, append_assoc, append-nil, arith}
+use Rattle.std.proofs.Common.{◌≡◌, ℕ, List, [], ◌++◌, Option, Some, None, OnOk, MatchResult, Result, Ok, Err, refl, sym, subst, ap, ◌∙◌, append_assoc, append-nil}
 use Rattle.irp_types.specs.declared.names.IrpRef.{IrpRef}
 use Rattle.irp_transcript.specs.Transcripts.{TranscriptValue, no_lines}
 use Rattle.irp_transcript.specs.declared.header.Header.{Header}
-use Rattle.irp_transcript_reader.specs.Reading.{cut, with_line}
 use Rattle.irp_streams.proofs.Pieces.{appends_none, appends_then}
-use Rattle.irp_fast_reader.specs.Fed.{HasRead}
-use Rattle.irp_transcript_reader.specs.declared.line.Line.TheVariants.{Header as HeaderLine}
-use Rattle.irp_fast_reader.specs.declared.reader.Reader.{Reader}
-use Rattle.irp_feed.specs.Feeding.{AreAllBefore, AreTakenBefore, FailsBehind, IsSoFar, StartsNone}
-use Rattle.irp_feed.specs.Input.{Bytes, Holds, IsInput, IsTextOf}
-use Rattle.irp_feed.specs.declared.unfed.Unfed.{Unfed}
-use Rattle.irp_feed.proofs.Fed.{say_all, say_more}
+use Rattle.irp_feed.specs.Feeding.{Stops, header_alone}
+use Rattle.irp_feed.specs.Input.{Bytes, Holds}
 use Rattle.irp_listing.specs.Writing.{BreaksOff, Written, count_after}
 use Rattle.irp_listing.specs.declared.writing.Unwritten.{Unwritten}
-use Rattle.irp_view.specs.Listed.{Aim, AreGathered, AreShown, AreShownBefore, AreShownUpTo, BreaksAt, Chosen, GathersBlock, HasGathered, IsFresh, IsGathered, SendsInput, ShowsAllBefore, ShowsFirst, ShowsInput, StopsAt, Taken, aim_of, taken_of}
+use Rattle.irp_view.specs.Listed.{Aim, Chosen, HasGathered, HasSent, IsFresh, IsGathered, ShowsInput, ShowsLines, StopsAt, aim_of, chosen_of}
 use Rattle.irp_view.specs.Showing.{IsShowing}
 use Rattle.irp_view.specs.Streams.{Output, streams_of}
 use Rattle.irp_view.specs.declared.listing.Gathering.{Gathering}
@@ -25,46 +19,24 @@ use Rattle.irp_view.proofs.Gathered.{shows_none}
 
 -- ---- a line
 
+-- nothing failed
+sent_calm : (fault : Option Unwritten) (output : Output) (aim : Aim) (transcript : TranscriptValue) → fault ≡ None → ShowsLines aim.chosen transcript aim.before output
+    → HasSent fault output aim transcript
+sent_calm fault output aim transcript none shows = subst (λ (given : Option Unwritten). HasSent given output aim transcript) (sym none) shows
+
 -- one more was gathered
-pub gathered_on : {E : Type 0} (result : Result (Unit {0}) E) (gathering : Gathering) (after : Shown) (aim : Aim) (transcript : TranscriptValue)
-    → gathering.wanted.choice.only ≡ aim.chosen.only → gathering.wanted.span ≡ aim.chosen.span
-    → OnOk result (IsGathered gathering.wanted.choice.only gathering.wanted.span after aim.sent transcript)
-    → OnOk result (HasGathered (record gathering { shown = after }) aim transcript)
-gathered_on (Ok done) gathering after aim transcript only span is = record {
-  only = only;
-  span = span;
-  is = subst (λ (given : Option IrpRef × Option Span). IsGathered given.0 given.1 after aim.sent transcript) (λ i. (only i, span i)) is;
+pub gathered_on : {E : Type 0} (result : Result (Unit {0}) E) (gathering : Gathering) (after : Shown) (output : Output) (aim : Aim) (ended before transcript : TranscriptValue)
+    → (has : HasGathered gathering output aim ended before)
+    → OnOk result (IsGathered gathering.wanted.choice.only gathering.wanted.span after has.shows.text transcript)
+    → MatchResult result (λ done. HasGathered (record gathering { shown = after }) output aim ended transcript) (λ error. HasSent gathering.fault output aim ended)
+gathered_on (Ok done) gathering after output aim ended before transcript has is = record {
+  only = has.only;
+  span = has.span;
+  calm = has.calm;
+  shows = has.shows;
+  is = subst (λ (given : Option IrpRef × Option Span). IsGathered given.0 given.1 after has.shows.text transcript) (λ i. (has.only i, has.span i)) is;
 }
-gathered_on (Err fault) gathering after aim transcript only span is = tt
-
--- ---- a block that was read
-
--- the lines of a text, with more behind it
-first_of : (reader : Reader) (gathering : Gathering) (aim : Aim) (text more showing : List ℕ) → (are : AreGathered reader gathering aim text)
-    → aim.sent ++ gathering.shown.text.items ≡ showing → ShowsFirst aim.chosen (length (cut text).0) (text ++ more) showing
-first_of reader gathering aim text more showing are same = record {
-  transcript = are.transcript;
-  say = say_more (length (cut text).0) text more are.transcript (say_all text are.transcript are.read.lines);
-  is = subst (IsShowing aim.chosen.only aim.chosen.span are.transcript) same are.are.is.shows;
-}
-
--- what isn't read behind them
-pub stops_so : (line : Option ℕ) (gathering : Gathering) (aim : Aim) (text : List ℕ) → AreTakenBefore HasGathered line gathering aim text
-    → ShowsAllBefore aim.chosen line text (aim.sent ++ gathering.shown.text.items)
-stops_so line gathering aim text are = record {
-  count = are.count;
-  all = are.all;
-  shows = record { transcript = are.transcript; say = are.say; is = are.are.is.shows };
-}
-
--- nothing is left of what was gathered of the block
-pub stops_before : (reader : Reader) (gathering : Gathering) (aim : Aim) (text block left : List ℕ) → AreGathered reader gathering aim text
-    → gathering.shown.text.items ≡ [] → left ≡ [] → ShowsAllBefore aim.chosen None (text ++ block) (aim.sent ++ left)
-stops_before reader gathering aim text block left gathered was is = record {
-  count = length (cut text).0;
-  all = tt;
-  shows = first_of reader gathering aim text block (aim.sent ++ left) gathered (ap (λ (given : List ℕ). aim.sent ++ given) (was ∙ sym is));
-}
+gathered_on (Err error) gathering after output aim ended before transcript has is = sent_calm gathering.fault output aim ended has.calm has.shows
 
 -- ---- a block that was sent
 
@@ -85,174 +57,70 @@ breaks_then first second old mid new before between after fault one two = (
   two.1 ∙ ap (count_after fault) one.1,
 )
 
--- what was gathered of a block, whether all of it was read or not
-pub in_block : (read : Result (Unit {0}) Unfed) (reader : Reader) (gathering : Gathering) (aim : Aim) (text : List ℕ) → GathersBlock read reader gathering aim text
-    → (count : ℕ) × ShowsFirst aim.chosen count text (aim.sent ++ gathering.shown.text.items)
-in_block (Ok done) reader gathering aim text gathered =
-    let whole : text ++ [] ≡ text = append-nil text in (
-      length (cut text).0,
-      subst (λ (given : List ℕ). ShowsFirst aim.chosen (length (cut text).0) given (aim.sent ++ gathering.shown.text.items)) whole
-          (first_of reader gathering aim text [] (aim.sent ++ gathering.shown.text.items) gathered refl),
-    )
-in_block (Err unfed) reader gathering aim text gathered = (gathered.1.count, gathered.1.shows)
+module _ (gathering : Gathering) (mid new : Output) (aim : Aim) (ended before : TranscriptValue) (has : HasGathered gathering mid aim ended before) where
+  -- all that was gathered went out
+  abbrev shows_on : Written gathering.shown.text.items mid.gone new.gone mid.failures new.failures → ShowsLines aim.chosen before aim.before new
+  shows_on written = record {
+    text = has.shows.text ++ gathering.shown.text.items;
+    is = has.is.shows;
+    written = written_then has.shows.text gathering.shown.text.items aim.before.gone mid.gone new.gone aim.before.failures mid.failures new.failures has.shows.written written;
+  }
 
--- the output failed
-pub block_breaks : (chosen : Chosen) (sent gathered text : List ℕ) (old mid new : Output) (fault : Unwritten)
-    → Written sent old.gone mid.gone old.failures mid.failures → BreaksOff gathered mid.gone new.gone mid.failures new.failures fault
-    → (count : ℕ) × ShowsFirst chosen count text (sent ++ gathered) → AreShownUpTo chosen text old new fault
-block_breaks chosen sent gathered text old mid new fault written broken is = record {
-  count = is.0;
-  showing = sent ++ gathered;
-  is = is.1;
-  broken = breaks_then sent gathered old.gone mid.gone new.gone old.failures mid.failures new.failures fault written broken;
-}
+  pub block_sent : (cleared : Gathering) → Written gathering.shown.text.items mid.gone new.gone mid.failures new.failures → cleared.shown.text.items ≡ []
+      → cleared.shown.entries ≡ gathering.shown.entries → cleared.shown.before_words ≡ gathering.shown.before_words → cleared.wanted ≡ gathering.wanted
+      → cleared.fault ≡ gathering.fault → HasGathered cleared new aim before before
+  block_sent cleared written none entries words wanted fault =
+      let whole : List ℕ = has.shows.text ++ gathering.shown.text.items in
+      record {
+        only = ap (λ (given : Wanted). given.choice.only) wanted ∙ has.only;
+        span = ap (λ (given : Wanted). given.span) wanted ∙ has.span;
+        calm = fault ∙ has.calm;
+        shows = shows_on written;
+        is = record {
+          counted = entries ∙ has.is.counted;
+          before_words = words ∙ has.is.before_words;
+          shows = subst (IsShowing aim.chosen.only aim.chosen.span before) (sym (append-nil whole) ∙ ap (λ (given : List ℕ). whole ++ given) (sym none)) has.is.shows;
+        };
+      }
 
--- all of it went out
-pub block_sent : (chosen : Chosen) (taken : Taken) (cleared : Gathering) (sent : List ℕ) (old mid new : Output)
-    → Written sent old.gone mid.gone old.failures mid.failures → Written taken.gathering.shown.text.items mid.gone new.gone mid.failures new.failures
-    → AreGathered taken.reader taken.gathering (aim_of chosen sent) taken.text
-    → cleared.shown.text.items ≡ [] → cleared.shown.entries ≡ taken.gathering.shown.entries → cleared.shown.before_words ≡ taken.gathering.shown.before_words
-    → cleared.wanted ≡ taken.gathering.wanted → AreShown chosen (taken_of taken.reader cleared taken.text) old new
-block_sent chosen taken cleared sent old mid new written more gathered none entries words wanted = record {
-  sent = sent ++ taken.gathering.shown.text.items;
-  written = written_then sent taken.gathering.shown.text.items old.gone mid.gone new.gone old.failures mid.failures new.failures written more;
-  none = none;
-  gathered = record {
-    transcript = gathered.transcript;
-    read = gathered.read;
-    few = gathered.few;
-    are = record {
-      only = ap (λ (given : Wanted). given.choice.only) wanted ∙ gathered.are.only;
-      span = ap (λ (given : Wanted). given.span) wanted ∙ gathered.are.span;
-      is = record {
-        counted = entries ∙ gathered.are.is.counted;
-        before_words = words ∙ gathered.are.is.before_words;
-        shows = subst (IsShowing chosen.only chosen.span gathered.transcript)
-            (sym (append-nil (sent ++ taken.gathering.shown.text.items)) ∙ ap (λ (given : List ℕ). (sent ++ taken.gathering.shown.text.items) ++ given) (sym none)) gathered.are.is.shows;
-      };
-    };
-  };
-}
+  pub block_left : (fault : Option Unwritten) → Written gathering.shown.text.items mid.gone new.gone mid.failures new.failures → fault ≡ gathering.fault → HasSent fault new aim before
+  block_left fault written same = sent_calm fault new aim before (same ∙ has.calm) (shows_on written)
 
--- what was read of it did
-pub block_stops : (chosen : Chosen) (line : Option ℕ) (sent gathered text : List ℕ) (old mid new : Output)
-    → Written sent old.gone mid.gone old.failures mid.failures → Written gathered mid.gone new.gone mid.failures new.failures
-    → ShowsAllBefore chosen line text (sent ++ gathered) → AreShownBefore chosen line text old new
-block_stops chosen line sent gathered text old mid new written more is = record {
-  showing = sent ++ gathered;
-  is = is;
-  written = written_then sent gathered old.gone mid.gone new.gone old.failures mid.failures new.failures written more;
-}
+  -- the output failed
+  pub block_breaks : (fault : Unwritten) → BreaksOff gathering.shown.text.items mid.gone new.gone mid.failures new.failures fault → HasSent (Some fault) new aim before
+  block_breaks fault broken = record {
+    text = has.shows.text ++ gathering.shown.text.items;
+    is = has.is.shows;
+    broken = breaks_then has.shows.text gathering.shown.text.items aim.before.gone mid.gone new.gone aim.before.failures mid.failures new.failures fault has.shows.written broken;
+  }
 
 -- ---- the input
 
+-- nothing shows a header, or no lines
+abbrev nothing_for : (chosen : Chosen) (known : Option Header) (output : Output) → ShowsLines chosen (record { header = known; entries = []; words = [] }) output output
+nothing_for chosen known output = record { text = []; is = shows_none chosen.only chosen.span known [] refl; written = (appends_none output.gone, refl) }
+
 -- behind the header nothing was shown
-pub starts_shown : (chosen : Chosen) (taken : Taken) (header : Header) (old : Output)
-    → HasRead taken.reader taken.text (with_line no_lines (HeaderLine header)) → taken.gathering.wanted.choice.only ≡ chosen.only
-    → taken.gathering.wanted.span ≡ chosen.span → IsFresh taken.gathering.shown → AreShown chosen taken old old
-starts_shown chosen taken header old read same_only same_span fresh = record {
-  sent = [];
-  written = (appends_none old.gone, refl);
-  none = fresh.2;
-  gathered = record {
-    transcript = with_line no_lines (HeaderLine header);
-    read = read;
-    few = omega arith;
-    are = record {
-      only = same_only;
-      span = same_span;
-      is = record {
-        counted = fresh.0;
-        before_words = fresh.1;
-        shows = shows_none chosen.only chosen.span (Some header) taken.gathering.shown.text.items fresh.2;
-      };
-    };
+pub starts_shown : (gathering : Gathering) (header : Header) (output : Output) → IsFresh gathering.shown → gathering.fault ≡ None
+    → HasGathered gathering output (aim_of (chosen_of gathering.wanted.choice.only gathering.wanted.span) output) (header_alone header) (header_alone header)
+starts_shown gathering header output fresh calm = record {
+  only = refl;
+  span = refl;
+  calm = calm;
+  shows = nothing_for (chosen_of gathering.wanted.choice.only gathering.wanted.span) (Some header) output;
+  is = record {
+    counted = fresh.0;
+    before_words = fresh.1;
+    shows = shows_none gathering.wanted.choice.only gathering.wanted.span (Some header) gathering.shown.text.items fresh.2;
   };
 }
 
 -- a text without lines
 pub nothing_shown : (chosen : Chosen) (left rest : Bytes) (output : Output) → Holds left rest no_lines
     → ShowsInput (Ok tt) chosen (streams_of left output) (streams_of rest output)
-nothing_shown chosen left rest output holds =
-    (no_lines, holds, record { text = []; is = shows_none chosen.only chosen.span None [] refl; written = (appends_none output.gone, refl) })
-
--- all that is taken was shown
-shown_before : (chosen : Chosen) (line : Option ℕ) (taken : Taken) (more : List ℕ) (old new : Output)
-    → AreAllBefore line (length (cut taken.text).0) → AreShown chosen taken old new → AreShownBefore chosen line (taken.text ++ more) old new
-shown_before chosen line taken more old new all are = record {
-  showing = are.sent;
-  is = record {
-    count = length (cut taken.text).0;
-    all = all;
-    shows = first_of taken.reader taken.gathering (aim_of chosen are.sent) taken.text more are.sent are.gathered (ap (λ (given : List ℕ). are.sent ++ given) are.none ∙ append-nil are.sent);
-  };
-  written = are.written;
-}
-
-first_more : (chosen : Chosen) (count : ℕ) (text more showing : List ℕ) → ShowsFirst chosen count text showing
-    → ShowsFirst chosen count (text ++ more) showing
-first_more chosen count text more showing is =
-    record { transcript = is.transcript; say = say_more count text more is.transcript is.say; is = is.is }
-
--- a line was refused, and the rest taken
-pub refused_shown : (chosen : Chosen) (line told : Option ℕ) (left rest : Bytes) (text : List ℕ) (old new : Output)
-    → ((count : ℕ) → AreAllBefore line count → AreAllBefore told count)
-    → FailsBehind text left rest told → AreShownBefore chosen line text old new → StopsAt chosen told (streams_of left old) (streams_of rest new)
-refused_shown chosen line told left rest text old new same fails are = record {
-  text = text ++ fails.more;
-  few = fails.few;
-  took = fails.took;
-  none = fails.none;
-  shown = record {
-    showing = are.showing;
-    is = record { count = are.is.count; all = same are.is.count are.is.all; shows = first_more chosen are.is.count text fails.more are.showing are.is.shows };
-    written = are.written;
-  };
-}
-
--- the output failed
-pub broken_shown : (chosen : Chosen) (fault : Unwritten) (start now : Bytes) (left : ℕ) (text : List ℕ) (old new : Output)
-    → IsSoFar start now left text → AreShownUpTo chosen text old new fault → BreaksAt chosen fault (streams_of start old) (streams_of now new)
-broken_shown chosen fault start now left text old new so_far are =
-    record { text = text; few = omega (arith, so_far.count); took = so_far.took; shown = are }
-
--- the text isn't read on behind the lines that were shown
-pub unread_shown : (chosen : Chosen) (line : Option ℕ) (taken : Taken) (start now : Bytes) (old new : Output)
-    → FailsBehind taken.text start now line → AreAllBefore line (length (cut taken.text).0) → AreShown chosen taken old new
-    → StopsAt chosen line (streams_of start old) (streams_of now new)
-unread_shown chosen line taken start now old new fails all are = record {
-  text = taken.text ++ fails.more;
-  few = fails.few;
-  took = fails.took;
-  none = fails.none;
-  shown = shown_before chosen line taken fails.more old new all are;
-}
-
--- the text is a transcript's
-pub end_shown : (chosen : Chosen) (taken : Taken) (start now : Bytes) (old new : Output)
-    → (are : AreShown chosen taken old new) → IsInput start now taken.text × IsTextOf taken.text are.gathered.transcript
-    → SendsInput (Ok tt) chosen (streams_of start old) (streams_of now new)
-end_shown chosen taken start now old new are is = (
-  are.gathered.transcript,
-  (taken.text, is.0, is.1),
-  record {
-    text = are.sent;
-    is = subst (IsShowing chosen.only chosen.span are.gathered.transcript) (ap (λ (given : List ℕ). are.sent ++ given) are.none ∙ append-nil are.sent) are.gathered.are.is.shows;
-    written = are.written;
-  },
-)
+nothing_shown chosen left rest output holds = (no_lines, holds, nothing_for chosen None output)
 
 -- no header was read: nothing was shown
-pub no_header : (chosen : Chosen) (line : Option ℕ) (left rest : Bytes) (output : Output) → StartsNone left rest line
+pub no_header : (chosen : Chosen) (line : Option ℕ) (left rest : Bytes) (output : Output) → Stops left rest line no_lines
     → StopsAt chosen line (streams_of left output) (streams_of rest output)
-no_header chosen line left rest output starts = record {
-  text = starts.text;
-  few = starts.few;
-  took = starts.took;
-  none = starts.none;
-  shown = record {
-    showing = [];
-    is = record { count = starts.count; all = starts.all; shows = record { transcript = no_lines; say = starts.say; is = shows_none chosen.only chosen.span None [] refl } };
-    written = (appends_none output.gone, refl);
-  };
-}
+no_header chosen line left rest output stops = (no_lines, stops, nothing_for chosen None output)

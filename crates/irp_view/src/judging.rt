@@ -118,7 +118,7 @@ struct Judging<'a> {
     kept: Kept,
 }
 
-impl LineSink for Judging<'_> {
+impl LineSink<()> for Judging<'_> {
     ghost use Rattle.std.specs.Prelude.{Option};
     ghost use Rattle.irp_judge.specs.Judges.{seen};
     ghost use Rattle.irp_page.specs.declared.choosing.Choice.{Choice};
@@ -126,13 +126,19 @@ impl LineSink for Judging<'_> {
 
     ghost Fixed = { Option Choice };
 
-    ghost has_taken = { λ judging choice transcript.
+    ghost has_taken = { λ judging output choice ended transcript.
         IsJudged (seen judging.judge) judging.kept choice transcript };
+
+    ghost has_left = { λ judging output choice transcript. Unit {0} };
 
     fn take(&mut self, line: Line) -> Result<(), AllocError> {
         draft_line(&mut self.kept.draft, &line)?;
         note_line(&mut self.kept.refused, &line)?;
         judge_line(&mut self.judge, &mut self.kept, line)
+    }
+
+    fn end_block(&mut self, _output: &mut ()) -> bool {
+        true
     }
 }
 
@@ -186,7 +192,7 @@ fn judge_rest<R: Read>(
         refused: RefusedCalls::new(alloc),
     };
     let mut judging = Judging { judge, kept };
-    match feed_rest(alloc, input, buffer, reader, start, &mut judging) {
+    match feed_rest(alloc, input, &mut (), buffer, reader, start, &mut judging) {
         Ok(()) => Ok(found_in(judging)),
         Err(unfed) => Err(unread_behind(alloc, before_of(&start.header, &judging), unfed)),
     }

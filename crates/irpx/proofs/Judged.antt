@@ -7,20 +7,18 @@ use Rattle.irp_judge.specs.declared.verdict.Verdict.TheVariants.{Legal}
 use Rattle.irp_transcript.specs.Headers.{fixed_of}
 use Rattle.irp_transcript.specs.Transcripts.{TranscriptValue, no_lines}
 use Rattle.irp_transcript.specs.declared.header.Header.{Header}
-use Rattle.irp_transcript_reader.specs.Reading.{with_line}
-use Rattle.irp_transcript_reader.specs.declared.line.Line.TheVariants.{Header as HeaderLine}
 use Rattle.irp_feed.specs.Input.{Holds}
-use Rattle.irp_feed.specs.Feeding.{StartsNone, refused_line}
+use Rattle.irp_feed.specs.Feeding.{Stops, header_alone, refused_line}
 use Rattle.irp_feed.specs.Feeding as feed
 use Rattle.irp_feed.specs.declared.unfed.Unfed.{Unfed}
 use Rattle.irp_feed.specs.declared.unfed.Unfed.TheVariants as unfed
-use Rattle.irp_feed.proofs.Fed.{fails_at_start}
+use Rattle.irp_feed.proofs.Fed.{fails_of}
 use Rattle.irpx.specs.Checking.{HasVerdict}
 use Rattle.irpx.specs.Judging.{Fails, IsJudged, refusal_of}
 use Rattle.irp_streams.specs.Streams.{Bytes}
 
 -- behind the header nothing was judged
-pub starts_judged : (judge : JudgeValue) (header : Header) → judge.header ≡ header → HasJudged judge [] → IsJudged judge (with_line no_lines (HeaderLine header))
+pub starts_judged : (judge : JudgeValue) (header : Header) → judge.header ≡ header → HasJudged judge [] → IsJudged judge (header_alone header)
 starts_judged judge header same judged = record { header = subst (λ (given : Header). Some header ≡ Some given) (sym same) refl; judged = judged }
 
 -- the verdict on the transcript in the input
@@ -41,11 +39,11 @@ pub verdict_on_none : (old now : Bytes) → Holds old now no_lines → HasVerdic
 verdict_on_none old now holds = (holds.0, holds.1, record { transcript = no_lines; read = holds.2; judged = refl })
 
 -- or why there is none
-pub fails_so : (given : Unfed) (old now : Bytes) → feed.Fails old now (refused_line given) → Fails old now (refusal_of given)
+fails_so : (given : Unfed) (old now : Bytes) → feed.Fails old now (refused_line given) → Fails old now (refusal_of given)
 fails_so (unfed.Refused line refused) old now fails = (inr (line, fails.0.0, refl, fails.0.1, fails.0.2), fails.1)
 fails_so unfed.Input old now fails = (inl tt, fails.1)
 fails_so unfed.NoMemory old now fails = (inl tt, fails.1)
 fails_so unfed.NotTaken old now fails = (inl tt, fails.1)
 
-pub starts_fail : (given : Unfed) (old now : Bytes) → StartsNone old now (refused_line given) → Fails old now (refusal_of given)
-starts_fail given old now starts = fails_so given old now (fails_at_start (refused_line given) old now starts)
+pub stops_so : (given : Unfed) (old now : Bytes) (transcript : TranscriptValue) → Stops old now (refused_line given) transcript → Fails old now (refusal_of given)
+stops_so given old now transcript stops = fails_so given old now (fails_of (refused_line given) old now transcript stops)

@@ -21,19 +21,26 @@ struct Judging<'a> {
     judge: Judge<'a>,
 }
 
-impl LineSink for Judging<'_> {
+impl LineSink<()> for Judging<'_> {
     ghost use Rattle.irp_judge.specs.Judges.{seen};
     ghost use Rattle.irpx.specs.Judging.{IsJudged};
 
     ghost Fixed = { Unit {0} };
 
-    ghost has_taken = { λ judging fixed transcript. IsJudged (seen judging.judge) transcript };
+    ghost has_taken = { λ judging output fixed ended transcript.
+        IsJudged (seen judging.judge) transcript };
+
+    ghost has_left = { λ judging output fixed transcript. Unit {0} };
 
     fn take(&mut self, line: Line) -> Result<(), AllocError> {
         match line {
             Line::Entry(entry) => self.judge.feed(&entry),
             Line::Header(_) | Line::Word(_) => Ok(()),
         }
+    }
+
+    fn end_block(&mut self, _output: &mut ()) -> bool {
+        true
     }
 }
 
@@ -66,7 +73,7 @@ pub fn judge_rest<R: Read>(
 {
     let judge = Judge::new(alloc, &start.header);
     let mut judging = Judging { judge };
-    match feed_rest(alloc, input, buffer, reader, start, &mut judging) {
+    match feed_rest(alloc, input, &mut (), buffer, reader, start, &mut judging) {
         Ok(()) => Ok(judging.judge.verdict()),
         Err(unfed) => Err(refusal(unfed)),
     }

@@ -6,14 +6,14 @@ use Rattle.irp_transcript.specs.Transcripts.{no_lines}
 use Rattle.irp_transcript_reader.specs.declared.read_fault.ReadFault.{ReadFault}
 use Rattle.irp_transcript_reader.specs.Reading.{cut, with_line}
 use Rattle.irp_feed.specs.Feeding.{AreAllBefore, IsHopeless, IsSoFar, NextBlock, line_in, piece_of, refused_line}
-use Rattle.irp_feed.proofs.Fed.{all_before, both_pieces, few_so_far, hopeless_of, line_told, starts_refused, starts_unread}
+use Rattle.irp_feed.proofs.Fed.{all_before, both_pieces, few_so_far, hopeless_of, line_told, say_all, say_more, stops_behind}
 use Rattle.irp_feed.proofs.header.read_header.Goals as goal
 
 pub returns-in-Err-clause-start : goal.returns-in-Err-clause-start
 returns-in-Err-clause-start g c =
     let text : List ℕ = c.loop-to.invariant.text in
     let fails = c.in-Err.ensures.next (g.R.Read.remaining c.args.input.now) text no_lines c.loop-to.invariant.so_far c.loop-to.invariant.read in
-    starts_unread (refused_line c.in-Err.unfed) text (g.R.Read.remaining c.args.input.now) (g.R.Read.remaining c.next_block.new.input) c.loop-to.invariant.read.lines fails.1 fails.0
+    stops_behind (refused_line c.in-Err.unfed) (length (cut text).0) text no_lines (g.R.Read.remaining c.args.input.now) (g.R.Read.remaining c.next_block.new.input) fails.1 (say_all text no_lines c.loop-to.invariant.read.lines) fails.0
 
 pub returns-in-Ok-None-clause-start : goal.returns-in-Ok-None-clause-start
 returns-in-Ok-None-clause-start g c =
@@ -33,9 +33,9 @@ returns-in-Err-next-clause-start g c =
     let few = few_so_far (g.R.Read.remaining c.args.input.now) (g.R.Read.remaining c.next_block.new.input) (c.loop-to.left - c.in-Ok-Some.to) text block on in
     let hopeless = hopeless_of fault c.next.new.self text no_lines block (c.in-Err-next.ensures.gives text no_lines c.loop-to.invariant.read (omega (arith, few))) in
     let all = all_before fault text (c.in-Err-next.ensures.refused text no_lines c.loop-to.invariant.read (omega (arith, few))) in
-    starts_refused (refused_line c.of.result) (refused_line c.refuse.result) text block (g.R.Read.remaining c.args.input.now) (g.R.Read.remaining c.refuse.new.input)
-    c.refuse.ensures.before c.loop-to.invariant.read.lines
-    (subst (λ (line : Option ℕ). AreAllBefore line (length (cut text).0)) (sym told) all)
+    stops_behind (refused_line c.refuse.result) (length (cut text).0) (text ++ block) no_lines (g.R.Read.remaining c.args.input.now) (g.R.Read.remaining c.refuse.new.input)
+    (c.refuse.ensures.before (length (cut text).0) (subst (λ (line : Option ℕ). AreAllBefore line (length (cut text).0)) (sym told) all))
+    (say_more (length (cut text).0) text block no_lines (say_all text no_lines c.loop-to.invariant.read.lines))
     (c.refuse.ensures.fails (g.R.Read.remaining c.args.input.now) (text ++ block) on (subst (λ (line : Option ℕ). IsHopeless line (text ++ block)) (sym told) hopeless))
 
 pub returns-in-loop-to-clause-start : goal.returns-in-loop-to-clause-start

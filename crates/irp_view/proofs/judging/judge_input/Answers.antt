@@ -3,7 +3,7 @@ use Rattle.std.proofs.Common.{Option, Ok, sym, subst}
 use Rattle.irp_transcript.specs.Transcripts.{no_lines}
 use Rattle.irp_feed.specs.Feeding.{Fails, IsStart, refused_line}
 use Rattle.irp_feed.specs.declared.header.Start.{Start}
-use Rattle.irp_feed.proofs.Fed.{fails_at_start}
+use Rattle.irp_feed.proofs.Fed.{fails_of}
 use Rattle.irp_view.specs.Drafts.{choice_of}
 use Rattle.irp_view.proofs.Judged.{judges_choice, judges_ends}
 use Rattle.irp_view.proofs.judging.judge_input.Goals as goal
@@ -37,4 +37,4 @@ pub returns-clause-ends : goal.returns-clause-ends
 returns-clause-ends g c =
     let old = g.R.Read.remaining c.args.input.now in
     let now = g.R.Read.remaining c.read_header.new.input in
-    subst (Fails old now) (sym c.unread_behind.ensures) (fails_at_start (refused_line c.in-Err.unfed) old now c.in-Err.ensures.start)
+    subst (Fails old now) (sym c.unread_behind.ensures) (fails_of (refused_line c.in-Err.unfed) old now no_lines c.in-Err.ensures.start)

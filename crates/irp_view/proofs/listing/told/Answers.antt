@@ -1,16 +1,15 @@
 -- What stopped it is told.
-use Rattle.std.proofs.Common.{ℕ, Option, Result, Err, sym, subst}
-use Rattle.irp_view.specs.Listed.{SendsInput, StopsAt}
-use Rattle.irp_view.specs.declared.listing.Unsent.{Unsent}
+use Rattle.std.proofs.Common.{ℕ, Option, sym, subst}
+use Rattle.irp_view.specs.Listed.{HasSent, StopsAt}
+use Rattle.irp_view.specs.Streams.{streams_of}
+use Rattle.irp_listing.specs.declared.writing.Unwritten.{Unwritten}
 use Rattle.irp_view.proofs.listing.told.Goals as goal
 
-pub returns-in-Err-Unwritten : goal.returns-in-Err-Unwritten
-returns-in-Err-Unwritten c = λ chosen before after sends.
-    subst (λ (unsent : Unsent). SendsInput (Err unsent) chosen before after) c.in-Err-Unwritten.field-0-is
-    (subst (λ (sent : Result (Unit {0}) Unsent). SendsInput sent chosen before after) c.in-Err-Unwritten.is sends)
+pub returns-in-Some : goal.returns-in-Some
+returns-in-Some c = λ old new output aim transcript stops left.
+    (transcript, stops.first, subst (λ (given : Option Unwritten). HasSent given output aim transcript) c.in-Some.is left)
 
-pub returns-in-Err-Unfed : goal.returns-in-Err-Unfed
-returns-in-Err-Unfed c = λ chosen before after sends.
-    subst (λ (line : Option ℕ). StopsAt chosen line before after) (sym c.unread_behind-unread.ensures)
-    (subst (λ (unsent : Unsent). SendsInput (Err unsent) chosen before after) c.in-Err-Unfed.field-0-is
-    (subst (λ (sent : Result (Unit {0}) Unsent). SendsInput sent chosen before after) c.in-Err-Unfed.is sends))
+pub returns-in-None : goal.returns-in-None
+returns-in-None c = λ old new output aim transcript stops left.
+    subst (λ (line : Option ℕ). StopsAt aim.chosen line (streams_of old aim.before) (streams_of new output)) (sym c.unread_behind.ensures)
+    (transcript, stops, subst (λ (given : Option Unwritten). HasSent given output aim transcript) c.in-None.is left)

@@ -1,9 +1,10 @@
 -- The header was read, and then the rest; or what stopped it.
 use Rattle.std.proofs.Common.{Option, Ok, sym, subst}
+use Rattle.irp_transcript.specs.Transcripts.{no_lines}
 use Rattle.irp_feed.specs.Feeding.{IsStart}
 use Rattle.irp_feed.specs.declared.header.Start.{Start}
 use Rattle.irpx.specs.Judging.{Fails}
-use Rattle.irpx.proofs.Judged.{starts_fail, verdict_on_none}
+use Rattle.irpx.proofs.Judged.{stops_so, verdict_on_none}
 use Rattle.irpx.proofs.checking.judged.Goals as goal
 
 pub returns-in-Ok-None : goal.returns-in-Ok-None
@@ -17,7 +18,7 @@ pub returns : goal.returns
 returns g c =
     let old = g.R.Read.remaining c.args.input.now in
     let now = g.R.Read.remaining c.read_header.new.input in
-    subst (Fails old now) (sym c.refusal.ensures) (starts_fail c.in-Err.unfed old now c.in-Err.ensures.start)
+    subst (Fails old now) (sym c.refusal.ensures) (stops_so c.in-Err.unfed old now no_lines c.in-Err.ensures.start)
 
 pub returns-in-Ok-Some : goal.returns-in-Ok-Some
 returns-in-Ok-Some g c =

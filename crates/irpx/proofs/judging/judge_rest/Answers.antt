@@ -2,7 +2,7 @@
 use Rattle.std.proofs.Common.{sym, subst}
 use Rattle.irp_judge.specs.Judges.{seen}
 use Rattle.irpx.specs.Judging.{Fails}
-use Rattle.irpx.proofs.Judged.{fails_so, starts_judged, verdict_on}
+use Rattle.irpx.proofs.Judged.{starts_judged, stops_so, verdict_on}
 use Rattle.irpx.proofs.judging.judge_rest.Goals as goal
 
 pub returns-in-Ok : goal.returns-in-Ok
@@ -13,4 +13,4 @@ returns-in-Ok g c = λ old starts.
 pub returns : goal.returns
 returns g c = λ old starts.
     (let fails = c.in-Err.ensures old tt starts (starts_judged (seen c.new-judge.result) c.args.start.now.header c.new-judge.ensures.header c.new-judge.ensures.judged) in
-    subst (Fails old (g.R.Read.remaining c.feed_rest.new.input)) (sym c.refusal.ensures) (fails_so c.in-Err.unfed old (g.R.Read.remaining c.feed_rest.new.input) fails))
+    subst (Fails old (g.R.Read.remaining c.feed_rest.new.input)) (sym c.refusal.ensures) (stops_so c.in-Err.unfed old (g.R.Read.remaining c.feed_rest.new.input) fails.0 fails.1))

@@ -7,10 +7,10 @@ use Rattle.irp_view.specs.Drafts.{AreDrafted, choice_of}
 use Rattle.irp_view.specs.RefusedCalls.{HasNoted}
 use Rattle.irp_view.specs.declared.refused_calls.RefusedCalls.{RefusedCalls}
 use Rattle.irp_view.proofs.Judged.{judged_on}
-use Rattle.irp_view.proofs.judging.JudgingLineSink.take.Goals as goal
+use Rattle.irp_view.proofs.judging.JudgingLineSinkUnit.take.Goals as goal
 
 pub returns : goal.returns
-returns c = λ choice before was place few words.
+returns c = λ output choice ended before was place few words.
     (judged_on c.judge_line.result (seen c.args.self.now.judge) (seen c.judge_line.new.judge) c.args.self.now.kept c.judge_line.new.kept choice before c.args.line was place c.judge_line.ensures.header
     (ap choice_of c.judge_line.ensures.draft ∙ c.draft_line.ensures.choice ∙ was.chosen)
     (subst (λ (given : Option Draft). AreDrafted given (with_line before c.args.line).entries) (sym c.judge_line.ensures.draft) (c.in_ok-draft_line.ensures.drafted before was.drafted few))
