@@ -1,5 +1,5 @@
 -- A transcript that is judged line after line.
-use Rattle.std.proofs.Common.{◌≡◌, ℕ, List, [], Option, Some, Ok, inl, inr, refl, sym, subst}
+use Rattle.std.proofs.Common.{◌≡◌, [], Option, Some, inl, inr, refl, sym, subst}
 use Rattle.irp_judge.specs.Checked.{IsVerdict, IsVerdictWith}
 use Rattle.irp_judge.specs.Judging.{HasJudged, JudgeValue}
 use Rattle.irp_judge.specs.declared.verdict.Verdict.{Verdict}

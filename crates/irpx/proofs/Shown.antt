@@ -1,5 +1,5 @@
 -- What a transcript shows of its script follows of what ran.
-use Rattle.std.proofs.Common.{◌≡◌, ◌≤◌, ◌<◌, ◌+◌, ◌==◌, ◌&&◌, ℕ, zero, suc, All, Bool, true, false, cond, Option, Some, None, List, [], ◌∷◌, ◌++◌, length, map, refl, sym, subst, ap, ◌∙◌, arith}
+use Rattle.std.proofs.Common.{◌≡◌, ◌≤◌, ◌<◌, ◌+◌, ◌==◌, ◌&&◌, ℕ, zero, suc, All, Bool, true, false, cond, Option, Some, List, [], ◌∷◌, ◌++◌, length, map, refl, sym, subst, ap, ◌∙◌, arith}
 use Rattle.std.specs.Prelude.{slice_get}
 use Rattle.std.specs.Bool.{Decides}
 use Rattle.std.specs.Cmp.Lexicographic.{pointwise}
@@ -19,11 +19,10 @@ use Rattle.irp_transcript.specs.Transcripts.{TranscriptValue}
 use Rattle.irp_script_reader.specs.declared.script.Script.{Script}
 use Rattle.irp_script.specs.Accounts.{called_once, calls_at, pair_at}
 use Rattle.irp_script.specs.Made.{NoneTwice, SeatCalls, calls_in, calls_of}
-use Rattle.irp_script.specs.Numbers.{EachAsOften, NoneMoreOften}
-use Rattle.irp_script.specs.Outcomes.{Outcome, Ways, outcomes}
+use Rattle.irp_script.specs.Numbers.{EachAsOften}
+use Rattle.irp_script.specs.Outcomes.{Outcome, outcomes}
 use Rattle.irp_script.specs.Pairs.{Pair}
 use Rattle.irp_script.specs.Ran.{Ran, seats_in}
-use Rattle.irp_script.specs.Words.{told_by, word_steps}
 use Rattle.irp_script.specs.Working.{AtWork}
 use Rattle.irp_script.specs.declared.stop.Stop.{Stop}
 use Rattle.irp_script.proofs.Accounted.{accounted}

@@ -1,6 +1,5 @@
 -- What was gathered of the block was sent, or a beginning of it.
-use Rattle.std.proofs.Common.{refl, ap, subst, ℕ, List}
-use Rattle.irp_listing.specs.Writing.{BreaksOff, Written}
+use Rattle.std.proofs.Common.{refl}
 use Rattle.irp_view.specs.Streams.{Output, output_of}
 use Rattle.irp_view.proofs.Listed.{block_breaks, block_left, block_sent}
 use Rattle.irp_view.proofs.listing.GatheringLineSink.end_block.Goals as goal
