@@ -239,11 +239,6 @@ pub alike_at : (rows : List Found) (number : ℕ) (row found : Found) → slice_
     → IsSomeAnd (slice_get rows number) (λ row. AreAlike row found) → AreAlike row found
 alike_at rows number row found is alike = subst (λ (one : Option Found). IsSomeAnd one (λ row. AreAlike row found)) is alike
 
-pub alike_there : (rows : List Found) (number : ℕ) (some found : Found) → number < length rows → AreAlike (get_or rows number some) found
-    → IsSomeAnd (slice_get rows number) (λ row. AreAlike row found)
-alike_there rows number some found low alike =
-    subst (λ (one : Option Found). IsSomeAnd one (λ row. AreAlike row found)) (sym (slice_get-get_or rows number some low)) alike
-
 -- ---- which outcome a row shows
 
 -- the outcome of a member is one of those that were put into groups

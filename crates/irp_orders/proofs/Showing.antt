@@ -42,29 +42,6 @@ unmade_up script order number rows row made.NoStep are stands stops can =
     let from = row_from order.in_groups are.founds rows (number - 1) row are.made stands.1 in
     absurd (can script (tells order) (outcomes_of are.founds) from.0 row.outcome are.outcomes from.1 (stops refl))
 
-pub no_row : (script : ScriptParts) (order : Order) (number : ℕ) (rows : List Found) (answer : Ending) → AreRowsOf script order rows
-    → (answer ≡ ending.NoOutcome (length rows)) × ((number ≡ 0) ⊎ (length rows < number)) → IsUnshown script order number answer
-no_row script order number rows answer are none =
-    subst (λ (answer : Ending). IsUnshown script order number answer) (sym none.0)
-    (record { rows = rows; rows_are = are; counted = refl; beyond = none.1 })
-
-pub unexplored_unshown : (script : ScriptParts) (order : Order) (number : ℕ) (answer : Ending) → IsUnexplored script order answer
-    → IsUnshown script order number answer
-unexplored_unshown script order number ending.Done un = absurd un
-unexplored_unshown script order number (ending.RefusedScript refusal) un = absurd un
-unexplored_unshown script order number (ending.FaultyWords lines) un = absurd un
-unexplored_unshown script order number ending.Differs un = absurd un
-unexplored_unshown script order number ending.Broken un = absurd un
-unexplored_unshown script order number ending.NoMemory un = tt
-unexplored_unshown script order number (ending.Met bound) un = un
-unexplored_unshown script order number ending.NoOrder un = absurd un
-unexplored_unshown script order number ending.OtherWords un = absurd un
-unexplored_unshown script order number ending.NotBesideRight un = absurd un
-unexplored_unshown script order number (ending.RefusedCondition fault) un = absurd un
-unexplored_unshown script order number (ending.NoOutcome count) un = absurd un
-unexplored_unshown script order number (ending.NoFile name reason) un = absurd un
-unexplored_unshown script order number ending.Failed un = absurd un
-
 pub unshown_shows : (script : ScriptParts) (order : Order) (number : ℕ) (old new : Option (List ℕ)) (answer : Ending) → IsUnshown script order number answer
     → Shows script order number old new answer
 unshown_shows script order number old new ending.Done un = absurd un
