@@ -1,8 +1,8 @@
 //! Words that grow piece by piece.
 
-ghost use Rattle.std.specs.Prelude.{◌≡◌, [], IfErr, IfOk, IfSome, None, Some, decimal};
+ghost use Rattle.std.specs.Prelude.{◌≡◌, ℕ, List, [], IfErr, IfOk, IfSome, None, Some, decimal};
 ghost use Rattle.irp_names.specs.Small.{hex_text};
-ghost use Rattle.irp_names.specs.Sinks.{Says};
+ghost use Rattle.irp_names.specs.Sinks.{Says, emptied, in_marks};
 
 use crate::small::Hex;
 use std::alloc::{AllocError, Global};
@@ -69,6 +69,29 @@ impl Sink {
         if !self.ran_out && self.words.write_fmt(shown).is_err() {
             self.ran_out = true;
         }
+    }
+
+    /// Puts words in quotation marks.
+    pub fn quoted(&mut self, words: &str)
+        ensures { Says (in_marks words.now) self.old self.new }
+    {
+        self.put("\"");
+        self.put(words);
+        self.put("\"");
+    }
+
+    /// The words so far; what stood there before, where memory ran out.
+    pub fn words(&self) -> &str
+        ensures { (words : List ℕ) → self.now ≡ Some words → result.now ≡ words }
+    {
+        self.words.as_str()
+    }
+
+    /// Takes the words away. That memory ran out is remembered.
+    pub fn clear(&mut self)
+        ensures { self.new ≡ emptied self.old }
+    {
+        self.words.clear();
     }
 
     /// Remembers that memory ran out elsewhere.

@@ -4,10 +4,10 @@
 use crate::made::{Concern, answer_of, concern_of};
 use Piece::{Number, Say, Show};
 use irp_machine::{Run, header_of};
-use irp_names::major_name;
+use irp_names::{Sink, major_name};
 use irp_script_reader::{Script, ScriptParts, Section, Step};
 use irp_text_faults::{
-    Finding, Node, Piece, Place, key_of, put, put_place, put_section, there_are, tokens_of,
+    Finding, Node, Piece, Place, key_of, put_place, put_section, there_are, tokens_of,
 };
 use irp_types::{DeviceId, DispatchId, LockNo, Rule};
 use std::alloc::{AllocError, Global};
@@ -25,23 +25,21 @@ pub struct Warning {
     /// Where it stands.
     pub place: Place,
     /// What isn't meant.
-    words: Vec<u8>,
+    words: String,
 }
 
 impl Warning {
-    /// Puts the message behind what the buffer holds, in one line without a newline, which begins with `warning: `. The
-    /// one error is want of memory.
-    pub fn write(&self, out: &mut Vec<u8>) -> Result<(), AllocError> {
-        self.write_at(out, self.place)
+    /// Puts the message, in one line without a newline, which begins with `warning: `.
+    pub fn write(&self, out: &mut Sink) {
+        self.write_at(out, self.place);
     }
 
-    /// The same, with another place: that of the step in the text from which the JSON was made. The one error is want of
-    /// memory.
-    pub fn write_at(&self, out: &mut Vec<u8>, place: Place) -> Result<(), AllocError> {
-        put(out, &[Say("warning: ")])?;
-        put_section(out, self.section, self.index)?;
-        put_place(out, place)?;
-        out.extend_from_slice(self.words.as_slice())
+    /// The same, with another place: that of the step in the text from which the JSON was made.
+    pub fn write_at(&self, out: &mut Sink, place: Place) {
+        out.put("warning: ");
+        put_section(out, self.section, self.index);
+        put_place(out, place);
+        out.put(self.words.as_str());
     }
 }
 
@@ -191,7 +189,7 @@ fn warning_of(
     let mut found = Finding::new(alloc, whole.text);
     tell(&mut found, node_of(whole, section, index, concern), concern);
     let place = found.place();
-    let words = found.ended()?;
+    let words = found.finish()?;
     Ok(Warning {
         section,
         index,
