@@ -19,18 +19,6 @@ use Rattle.irp_view.specs.declared.showing.Shown.{Shown}
 
 -- ---- spans
 
-pub more_within : (from to : ℕ) (entries : List Entry) (entry : Entry) → from ≤ length entries → length entries < to
-    → drop from (take to (entries ++ entry ∷ [])) ≡ drop from (take to entries) ++ entry ∷ []
-more_within from to entries entry low high = grind (arith, common_steps)
-
-pub more_below : (from to : ℕ) (entries : List Entry) (entry : Entry) → length entries < from
-    → drop from (take to (entries ++ entry ∷ [])) ≡ drop from (take to entries)
-more_below from to entries entry low = grind (arith, common_steps)
-
-pub more_above : (from to : ℕ) (entries : List Entry) (entry : Entry) → to ≤ length entries
-    → drop from (take to (entries ++ entry ∷ [])) ≡ drop from (take to entries)
-more_above from to entries entry high = grind (arith, common_steps)
-
 -- ---- word lines
 
 no_words : (only : Option IrpRef) (span : Option Span) → AreWordsFor only span [] []
