@@ -123,7 +123,7 @@ grouped_in founds rows found numbers number row grouped stands alike = record {
   each = long_more founds numbers found number grouped.each;
   within =
       subst (λ long. All (λ number. number < long) (numbers ++ number ∷ [])) (sym (length-set rows number (joined_row row found)))
-      (All-push (λ number. number < length rows) numbers number grouped.within (slice_get_within rows number row stands));
+      (All-push (λ (number : ℕ). number < length rows) numbers number grouped.within (slice_get_within rows number row stands));
   groups = λ k other is. by k other is (number == k) refl;
 }
   where
@@ -154,8 +154,8 @@ grouped_last founds rows found numbers grouped own = record {
   each = long_more founds numbers found (length rows) grouped.each;
   within =
       subst (λ long. All (λ number. number < long) (numbers ++ length rows ∷ [])) (sym (length-append rows (found ∷ [])))
-      (All-push (λ number. number < length rows + 1) numbers (length rows)
-      (All-weaker (λ number. number < length rows) (λ number. number < length rows + 1) (λ number low. omega (arith, low)) numbers grouped.within) (omega arith));
+      (All-push (λ (number : ℕ). number < length rows + 1) numbers (length rows)
+      (All-weaker (λ (number : ℕ). number < length rows) (λ (number : ℕ). number < length rows + 1) (λ number low. omega (arith, low)) numbers grouped.within) (omega arith));
   groups = λ k other is. by k other (get_last rows found other k is);
 }
   where
