@@ -1,58 +1,18 @@
 //! What isn't meant in the steps of a script, by what they are answered as they are made in the order of the text.
 
 use crate::conditions::may_be_answered;
+use crate::warning::{Concern, Warning};
 use irp_machine::{After, Answered, Run, Standing};
 use irp_script_reader::{Condition, Named, ScriptParts, Step, StepAct};
-use irp_steps::{UNBOUND, label_at, named_by, packet_of};
+use irp_steps::{label_at, named_by, packet_of};
 use irp_transcript::WordReply;
 use irp_types::{
-    Asked, Call, CancelId, DeviceId, DispatchId, Hand, LockAct, LockNo, Party, Plan, Refusal,
-    Reply, Rule, Setting,
+    Asked, Call, CancelId, DeviceId, Hand, Known, LockAct, Party, Plan, Refusal, Reply, Setting,
 };
 use std::alloc::AllocError;
 
 /// The most atomic steps of one step of a script.
 const MOST_ATOMIC: u32 = 8;
-
-/// What isn't meant in a step, and the key under which it stands.
-#[derive(Clone, Copy)]
-pub enum Concern {
-    /// No allocate binds the label before.
-    Unbound,
-    /// A routine of a rule isn't there.
-    NoRoutine {
-        rule: Rule,
-        number: u32,
-        count: u32,
-    },
-    /// A cancel routine isn't there.
-    NoCancel {
-        number: u32,
-        count: usize,
-    },
-    /// A packet has fewer locations than the stack has devices.
-    TooShort {
-        size: u32,
-        devices: u32,
-    },
-    /// A packet is passed down, and there is no device below.
-    NoLower {
-        device: DeviceId,
-        dispatch: DispatchId,
-        major: u8,
-    },
-    /// A device is deleted that has a neighbour.
-    Attached,
-    /// A seat gives back what it doesn't hold.
-    NotHeld {
-        seat: u32,
-        lock: LockNo,
-    },
-    /// The step that it hangs on is never answered so.
-    NeverAnswered {
-        step: u32,
-    },
-}
 
 /// What an act was answered, where it was answered this before.
 fn answer_behind(behind: After, answer: Option<Answered>) -> Option<Answered> {
@@ -84,34 +44,37 @@ pub fn answer_of<'a>(
     Err(AllocError)
 }
 
-/// Whether an act names a label that isn't bound, of which that wasn't told before.
-fn is_unbound(standing: &Standing, told: &mut Vec<bool>, act: StepAct) -> bool {
+/// Whether a warning tells of a label that isn't bound.
+fn is_told(told: &[Warning], label: usize) -> bool {
+    told.iter()
+        .any(|warning| matches!(warning.concern, Concern::Unbound { label: one } if one == label))
+}
+
+/// The label that an act names, where it isn't bound, and no warning tells of it: its packet's use would have number 0.
+fn unbound_in(standing: &Standing, told: &[Warning], act: StepAct) -> Option<usize> {
     let Some(Named::Label(label)) = named_by(act) else {
-        return false;
+        return None;
     };
-    match told.get_mut(label) {
-        Some(told) if !*told && label_at(standing.labels(), label) == UNBOUND => {
-            *told = true;
-            true
-        }
-        _ => false,
-    }
+    let is_unbound = label_at(standing.labels(), label).use_no == 0;
+    (is_unbound && !is_told(told, label)).then_some(label)
 }
 
 /// What isn't meant in a step that was answered so, if anything. Of a label that isn't bound it is told once.
 fn of_answer(
     run: &Run,
     script: &ScriptParts,
-    told: &mut Vec<bool>,
+    known: Known,
+    told: &[Warning],
     step: &Step,
     answer: Answered,
 ) -> Option<Concern> {
-    if is_unbound(run.standing(), told, step.act) {
-        return Some(Concern::Unbound);
+    if let Some(label) = unbound_in(run.standing(), told, step.act) {
+        return Some(Concern::Unbound { label });
     }
-    match answer {
-        Answered::Reply(reply) => of_call(run, script, step.act, reply),
-        Answered::Word(reply) => not_held(step.act, step.seat, reply),
+    match (step.act, answer) {
+        (StepAct::Call(call), Answered::Reply(reply)) => of_call(run, script, known, call, reply),
+        (act, Answered::Word(reply)) => not_held(act, step.seat, reply),
+        _ => None,
     }
 }
 
@@ -119,12 +82,13 @@ fn of_answer(
 pub fn concern_of(
     run: &Run,
     script: &ScriptParts,
-    told: &mut Vec<bool>,
+    known: Known,
+    told: &[Warning],
     step: &Step,
     answer: Option<Answered>,
 ) -> Option<Concern> {
     match (never_answered(script, step.condition), answer) {
-        (None, Some(answer)) => of_answer(run, script, told, step, answer),
+        (None, Some(answer)) => of_answer(run, script, known, told, step, answer),
         (never, _) => never,
     }
 }
@@ -149,60 +113,57 @@ fn not_held(act: StepAct, seat: u32, reply: WordReply) -> Option<Concern> {
 }
 
 /// What isn't meant in a call that was answered so, if anything.
-fn of_call(run: &Run, script: &ScriptParts, act: StepAct, reply: Reply) -> Option<Concern> {
-    let StepAct::Call(call) = act else {
-        return None;
-    };
-    match call {
-        Call::SetRoutine { setting, .. } => no_routine(script, setting),
-        Call::SetCancelRoutine { cancel, .. } => no_cancel(script, cancel?),
-        Call::Delete { .. } if reply == Reply::Refused(Refusal::StillAttached) => {
-            Some(Concern::Attached)
-        }
-        Call::CallDriver { party, target, .. } => of_send(run, script, act, party, target, reply),
-        _ => None,
-    }
-}
-
-/// What isn't meant in a send that was answered so, if anything.
-fn of_send(
+fn of_call(
     run: &Run,
     script: &ScriptParts,
-    act: StepAct,
-    party: Party,
-    target: DeviceId,
+    known: Known,
+    call: Call<Named, u32>,
     reply: Reply,
 ) -> Option<Concern> {
-    match reply {
-        Reply::Refused(_) if party == Party::Originator => {
-            too_short(run.standing(), act, target)
+    match (call, reply) {
+        (Call::SetRoutine { setting, .. }, _) => no_routine(known, setting),
+        (
+            Call::SetCancelRoutine {
+                cancel: Some(cancel),
+                ..
+            },
+            _,
+        ) => no_cancel(known, cancel),
+        (Call::Delete { .. }, Reply::Refused(Refusal::StillAttached)) => Some(Concern::Attached),
+        (
+            Call::CallDriver {
+                party: Party::Originator,
+                target,
+                ..
+            },
+            Reply::Refused(_),
+        ) => too_short(run.standing(), StepAct::Call(call), target),
+        (Call::CallDriver { .. }, Reply::Status(_)) => {
+            no_lower(script, run.entries().last()?.asked.as_slice())
         }
-        Reply::Status(_) => no_lower(script, run.entries().last()?.asked.as_slice()),
         _ => None,
     }
 }
 
 /// A routine that isn't there.
-fn no_routine(script: &ScriptParts, setting: Setting) -> Option<Concern> {
-    let mut count = 0u32;
-    for routine in script.completions.as_slice() {
-        if routine.rule == setting.routine.rule {
-            count = count.saturating_add(1);
-        }
-    }
+fn no_routine(known: Known, setting: Setting) -> Option<Concern> {
     let (rule, number) = (setting.routine.rule, setting.routine.no);
+    let count = known.count_of(rule);
     (number >= count).then_some(Concern::NoRoutine {
-        rule,
+        rule: Some(rule),
         number,
         count,
     })
 }
 
 /// A cancel routine that isn't there.
-fn no_cancel(script: &ScriptParts, cancel: CancelId) -> Option<Concern> {
-    let count = script.cancels.as_slice().len();
-    let number = cancel.0;
-    (number as usize >= count).then_some(Concern::NoCancel { number, count })
+fn no_cancel(known: Known, cancel: CancelId) -> Option<Concern> {
+    let (number, count) = (cancel.0, known.cancel);
+    (number >= count).then_some(Concern::NoRoutine {
+        rule: None,
+        number,
+        count,
+    })
 }
 
 /// A packet has fewer locations than the stack of a device has devices up to it.
@@ -218,25 +179,33 @@ fn too_short(standing: &Standing, act: StepAct, target: DeviceId) -> Option<Conc
 }
 
 /// Whether a dispatch's plan passes the packet down.
-fn passes_down(script: &ScriptParts, dispatch: DispatchId) -> bool {
+fn passes_down(script: &ScriptParts, dispatch: irp_types::DispatchId) -> bool {
     matches!(
         script.dispatches.as_slice().get(dispatch.0 as usize),
         Some(Plan::Skip | Plan::Forward { .. } | Plan::ForwardPend { .. })
     )
 }
 
-/// Of the dispatches that were asked the one that passes the packet down where no device is below.
+/// A dispatch passes the packet down, as it was asked, where no device is below.
+fn passed_down(script: &ScriptParts, asked: Asked) -> Option<Concern> {
+    match asked {
+        Asked::Dispatch { id, shown, .. } if !shown.has_lower && passes_down(script, id) => {
+            Some(Concern::NoLower {
+                device: shown.device?,
+                dispatch: id,
+                major: shown.major,
+            })
+        }
+        _ => None,
+    }
+}
+
+/// Of the dispatches that were asked the first that passes the packet down where no device is below.
 fn no_lower(script: &ScriptParts, asked: &[Asked]) -> Option<Concern> {
     for one in asked {
-        match *one {
-            Asked::Dispatch { id, shown, .. } if !shown.has_lower && passes_down(script, id) => {
-                return Some(Concern::NoLower {
-                    device: shown.device?,
-                    dispatch: id,
-                    major: shown.major,
-                });
-            }
-            _ => {}
+        let concern = passed_down(script, *one);
+        if concern.is_some() {
+            return concern;
         }
     }
     None
