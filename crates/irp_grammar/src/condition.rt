@@ -4,9 +4,8 @@
 use crate::cursor::Cursor;
 use crate::said::Said;
 use crate::wanted::Wanted;
-use crate::written::Written;
 use irp_forms::{HasName, named};
-use irp_names::{Act, Part};
+use irp_names::{Act, Part, Sink};
 use irp_script_reader::{AnswerWord, Condition, ExpectedAnswer};
 use irp_types::{CancelId, Refusal, Status};
 
@@ -119,7 +118,7 @@ impl<'a> Said<'a> {
 }
 
 /// Writes an answer as JSON has it.
-fn put_answer(text: &mut Written, answer: ExpectedAnswer) {
+fn put_answer(text: &mut Sink, answer: ExpectedAnswer) {
     match answer {
         ExpectedAnswer::AnyRefusal => text.quoted("refused"),
         ExpectedAnswer::Refusal(refusal) => {
@@ -145,7 +144,7 @@ fn put_answer(text: &mut Written, answer: ExpectedAnswer) {
 }
 
 /// Writes the key `if` of a step, behind a comma, where it hangs on anything.
-pub fn put_condition(text: &mut Written, condition: Option<Condition>) {
+pub fn put_condition(text: &mut Sink, condition: Option<Condition>) {
     if let Some(condition) = condition {
         let word = if condition.wanted { "is" } else { "is_not" };
         text.put(",\"if\":[");

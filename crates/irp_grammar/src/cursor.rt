@@ -1,7 +1,7 @@
 //! The words of a line, taken one after the other, and what is wrong with one.
 
 use crate::wanted::Wanted;
-use crate::written::Written;
+use irp_names::Sink;
 use std::alloc::{AllocError, Global};
 
 /// A word of a line.
@@ -40,7 +40,7 @@ impl<'a> WordsFault<'a> {
     }
 
     /// Puts the place of the fault, and what stands there.
-    fn write_place(&self, text: &mut Written) {
+    fn write_place(&self, text: &mut Sink) {
         if self.line == 0 {
             text.put("the text");
             return;
@@ -57,7 +57,7 @@ impl<'a> WordsFault<'a> {
     }
 
     /// Puts the fault, in a line.
-    fn write(&self, text: &mut Written) {
+    fn write(&self, text: &mut Sink) {
         self.write_place(text);
         text.put("; expected ");
         self.wanted.write(text);
@@ -72,11 +72,11 @@ impl<'a> WordsFault<'a> {
 
 /// A line for each fault. The one error is want of memory.
 pub fn fault_lines(alloc: Global, faults: &[WordsFault<'_>]) -> Result<String, AllocError> {
-    let mut text = Written::new(alloc);
+    let mut text = Sink::new(alloc);
     for fault in faults {
         fault.write(&mut text);
     }
-    text.ended()
+    text.finish()
 }
 
 /// The words of a line, how many of them were taken, and what is wrong with the line.

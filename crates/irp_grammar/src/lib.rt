@@ -17,7 +17,6 @@ mod to_json;
 mod to_words;
 mod values;
 mod wanted;
-mod written;
 
 pub use cursor::{WordsFault, fault_lines};
 pub use law::{Told, Untold, json};

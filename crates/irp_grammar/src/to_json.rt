@@ -3,8 +3,8 @@
 use crate::condition::put_condition;
 use crate::said::Said;
 use crate::step_line::{PlanLine, StepLine, Value};
-use crate::written::Written;
 use irp_forms::HasName;
+use irp_names::Sink;
 use irp_script_reader::{Behaviour, CompletionRoutine, Named};
 use irp_types::{CancelAnswer, DispatchId, Row, Setting};
 use std::alloc::{AllocError, Global};
@@ -23,27 +23,37 @@ pub fn letters(setting: Setting) -> &'static str {
     }
 }
 
+/// Writes numbers, with a comma between them.
+fn put_list(text: &mut Sink, numbers: &[u64]) {
+    for (at, number) in numbers.iter().enumerate() {
+        if at > 0 {
+            text.put(",");
+        }
+        text.number(*number);
+    }
+}
+
 /// Writes a setting.
-fn put_setting(text: &mut Written, setting: Setting) {
+fn put_setting(text: &mut Sink, setting: Setting) {
     let routine = setting.routine;
     text.put("[");
     text.quoted(routine.rule.name());
     text.put(",");
-    text.numbers(&[u64::from(routine.no), setting.context]);
+    put_list(text, &[u64::from(routine.no), setting.context]);
     text.put(",");
     text.quoted(letters(setting));
     text.put("]");
 }
 
 /// Writes the words before numbers, these, and the end of their list.
-fn put_numbers(text: &mut Written, words: &str, numbers: &[u64]) {
+fn put_numbers(text: &mut Sink, words: &str, numbers: &[u64]) {
     text.put(words);
-    text.numbers(numbers);
+    put_list(text, numbers);
     text.put("]");
 }
 
 /// Writes a behaviour, behind a comma.
-fn put_behaviour(text: &mut Written, behaviour: Behaviour) {
+fn put_behaviour(text: &mut Sink, behaviour: Behaviour) {
     match behaviour {
         Behaviour::Continue => text.put(",\"continue\""),
         Behaviour::Keep => text.put(",\"keep\""),
@@ -56,7 +66,7 @@ fn put_behaviour(text: &mut Written, behaviour: Behaviour) {
 }
 
 /// Writes a driver's table.
-fn put_table(text: &mut Written, table: &[(u8, DispatchId)]) {
+fn put_table(text: &mut Sink, table: &[(u8, DispatchId)]) {
     text.put("[");
     for (at, entry) in table.iter().enumerate() {
         let begin = if at == 0 { "[" } else { ",[" };
@@ -74,7 +84,7 @@ fn label_at<'a>(labels: &[&'a str], place: usize) -> &'a str {
 }
 
 /// Writes a packet, by one of these labels or by its reference.
-fn put_packet(text: &mut Written, packet: Named, labels: &[&str]) {
+fn put_packet(text: &mut Sink, packet: Named, labels: &[&str]) {
     match packet {
         Named::Label(place) => text.quoted(label_at(labels, place)),
         Named::Irp(irp) => put_numbers(text, "[", &[irp.slot as u64, irp.use_no]),
@@ -82,7 +92,7 @@ fn put_packet(text: &mut Written, packet: Named, labels: &[&str]) {
 }
 
 /// Writes a value; the labels are those of the text.
-fn put_value(text: &mut Written, value: Value, labels: &[&str]) {
+fn put_value(text: &mut Sink, value: Value, labels: &[&str]) {
     match value {
         Value::Absent => {}
         Value::Null => text.put("null"),
@@ -94,7 +104,7 @@ fn put_value(text: &mut Written, value: Value, labels: &[&str]) {
 }
 
 /// Writes a plan.
-fn put_plan(text: &mut Written, plan: &PlanLine) {
+fn put_plan(text: &mut Sink, plan: &PlanLine) {
     text.put("[");
     text.quoted(plan.kind.word());
     for (_, value) in plan.kind.parts().iter().zip(plan.values.iter()) {
@@ -105,7 +115,7 @@ fn put_plan(text: &mut Written, plan: &PlanLine) {
 }
 
 /// Writes a step, whose labels these are.
-fn put_step(text: &mut Written, step: &StepLine, labels: &[&str]) {
+fn put_step(text: &mut Sink, step: &StepLine, labels: &[&str]) {
     text.put("{\"seat\":");
     text.number(u64::from(step.seat));
     text.put(",\"do\":");
@@ -126,7 +136,7 @@ fn before(at: usize) -> &'static str {
 }
 
 /// Writes steps as the members of a list.
-fn put_steps(text: &mut Written, steps: &[StepLine], labels: &[&str]) {
+fn put_steps(text: &mut Sink, steps: &[StepLine], labels: &[&str]) {
     for (at, step) in steps.iter().enumerate() {
         text.put(before(at));
         put_step(text, step, labels);
@@ -134,7 +144,7 @@ fn put_steps(text: &mut Written, steps: &[StepLine], labels: &[&str]) {
 }
 
 /// Writes the members of a list of completion routines.
-fn put_completions(text: &mut Written, routines: &[CompletionRoutine]) {
+fn put_completions(text: &mut Sink, routines: &[CompletionRoutine]) {
     for (at, routine) in routines.iter().enumerate() {
         text.put(before(at));
         text.put("[");
@@ -146,7 +156,7 @@ fn put_completions(text: &mut Written, routines: &[CompletionRoutine]) {
 }
 
 /// Writes the members of a list of what cancel routines answer.
-fn put_cancels(text: &mut Written, answers: &[CancelAnswer]) {
+fn put_cancels(text: &mut Sink, answers: &[CancelAnswer]) {
     for (at, answer) in answers.iter().enumerate() {
         text.put(before(at));
         match *answer {
@@ -159,7 +169,7 @@ fn put_cancels(text: &mut Written, answers: &[CancelAnswer]) {
 }
 
 /// Writes the members of a list of plans.
-fn put_plans(text: &mut Written, plans: &[PlanLine]) {
+fn put_plans(text: &mut Sink, plans: &[PlanLine]) {
     for (at, plan) in plans.iter().enumerate() {
         text.put(before(at));
         put_plan(text, plan);
@@ -167,7 +177,7 @@ fn put_plans(text: &mut Written, plans: &[PlanLine]) {
 }
 
 /// Writes the members of a list of drivers.
-fn put_drivers(text: &mut Written, drivers: &[Row<(u8, DispatchId)>]) {
+fn put_drivers(text: &mut Sink, drivers: &[Row<(u8, DispatchId)>]) {
     for (at, table) in drivers.iter().enumerate() {
         text.put(before(at));
         put_table(text, table.as_slice());
@@ -175,7 +185,7 @@ fn put_drivers(text: &mut Written, drivers: &[Row<(u8, DispatchId)>]) {
 }
 
 /// Writes the form and the counts.
-fn put_top(text: &mut Written, said: &Said<'_>) {
+fn put_top(text: &mut Sink, said: &Said<'_>) {
     text.put("{\"form\":");
     text.number(u64::from(said.form_number()));
     text.put(",\"seats\":");
@@ -189,7 +199,7 @@ fn put_top(text: &mut Written, said: &Said<'_>) {
 }
 
 /// Writes what lines say.
-fn put_script(text: &mut Written, said: &Said<'_>) {
+fn put_script(text: &mut Sink, said: &Said<'_>) {
     let labels = said.names.labels();
     put_top(text, said);
     text.put(",\n \"completions\":[");
@@ -210,7 +220,7 @@ fn put_script(text: &mut Written, said: &Said<'_>) {
 /// The JSON of a script that lines say, a member of a list on a line, with a newline at its end. The one error is want
 /// of memory.
 pub fn json_text(alloc: Global, said: &Said<'_>) -> Result<String, AllocError> {
-    let mut text = Written::new(alloc);
+    let mut text = Sink::new(alloc);
     put_script(&mut text, said);
-    text.ended()
+    text.finish()
 }

@@ -5,9 +5,8 @@ use crate::members::{count_of, with_one};
 use crate::names::named_as;
 use crate::step_line::{PlanLine, StepLine, Value, line_of, plan_line};
 use crate::to_json::letters;
-use crate::written::Written;
 use irp_forms::HasName;
-use irp_names::{Part, major_name, minor_name, status_name};
+use irp_names::{Part, Sink, major_name, minor_name, status_name};
 use irp_script_reader::{
     Behaviour, CompletionRoutine, Condition, ExpectedAnswer, Named, ScriptFault, ScriptForm,
     ScriptParts, Step, read_script,
@@ -16,7 +15,7 @@ use irp_types::{CancelAnswer, CancelId, DispatchId, Known, Plan, Row, Setting, S
 use std::alloc::Global;
 
 /// Writes a number: below ten as decimal digits, else hexadecimal.
-fn put_number(text: &mut Written, number: u64) {
+fn put_number(text: &mut Sink, number: u64) {
     text.put(" ");
     if number < 10 {
         text.number(number);
@@ -26,19 +25,19 @@ fn put_number(text: &mut Written, number: u64) {
 }
 
 /// Writes words, and a number in decimal.
-fn put_numbered(text: &mut Written, words: &str, number: u64) {
+fn put_numbered(text: &mut Sink, words: &str, number: u64) {
     text.put(words);
     text.number(number);
 }
 
 /// Writes a word.
-fn put_word(text: &mut Written, word: &str) {
+fn put_word(text: &mut Sink, word: &str) {
     text.put(" ");
     text.put(word);
 }
 
 /// Writes a status by its name, or by its number.
-fn put_status(text: &mut Written, status: Status) {
+fn put_status(text: &mut Sink, status: Status) {
     match status_name(status) {
         Some(name) => put_word(text, name),
         None => {
@@ -49,7 +48,7 @@ fn put_status(text: &mut Written, status: Status) {
 }
 
 /// Writes a major function code by its name, or by its number.
-fn put_major(text: &mut Written, major: u8) {
+fn put_major(text: &mut Sink, major: u8) {
     match major_name(major) {
         Some(name) => put_word(text, name),
         None => put_numbered(text, " ", u64::from(major)),
@@ -58,7 +57,7 @@ fn put_major(text: &mut Written, major: u8) {
 
 /// Writes a setting. Its routine is given by a made-up name, such as watch_0, or by rule and number where the script
 /// lacks it.
-fn put_setting(text: &mut Written, setting: Setting, known: Known) {
+fn put_setting(text: &mut Sink, setting: Setting, known: Known) {
     let (rule, no) = (setting.routine.rule, setting.routine.no);
     let join = if no < known.count_of(rule) { "_" } else { " " };
     put_word(text, rule.name());
@@ -71,19 +70,19 @@ fn put_setting(text: &mut Written, setting: Setting, known: Known) {
 }
 
 /// Writes a cancel routine by its made-up name, or by its number where the script lacks it.
-fn put_cancel_id(text: &mut Written, id: CancelId, known: Known) {
+fn put_cancel_id(text: &mut Sink, id: CancelId, known: Known) {
     let name = if id.0 < known.cancel { " cancel_" } else { " " };
     put_numbered(text, name, u64::from(id.0));
 }
 
 /// Writes a status and information.
-fn put_result(text: &mut Written, status: Status, information: u64) {
+fn put_result(text: &mut Sink, status: Status, information: u64) {
     put_status(text, status);
     put_number(text, information);
 }
 
 /// Writes a behaviour.
-fn put_behaviour(text: &mut Written, behaviour: Behaviour) {
+fn put_behaviour(text: &mut Sink, behaviour: Behaviour) {
     match behaviour {
         Behaviour::Continue => text.put(" continue"),
         Behaviour::Keep => text.put(" keep"),
@@ -103,7 +102,7 @@ struct Around<'b> {
 }
 
 /// Writes a packet by its label, or by its reference.
-fn put_packet(text: &mut Written, packet: Named, labels: &[String]) {
+fn put_packet(text: &mut Sink, packet: Named, labels: &[String]) {
     match packet {
         Named::Label(place) => match labels.get(place) {
             Some(label) => put_word(text, label.as_str()),
@@ -137,7 +136,7 @@ fn before_number(part: Part, number: u64, around: Around<'_>) -> &'static str {
 }
 
 /// Writes a number that is such a part, and has no name in Windows.
-fn put_unnamed(text: &mut Written, part: Part, number: u64, around: Around<'_>) {
+fn put_unnamed(text: &mut Sink, part: Part, number: u64, around: Around<'_>) {
     match part {
         Part::Status => {
             text.put(" ");
@@ -149,7 +148,7 @@ fn put_unnamed(text: &mut Written, part: Part, number: u64, around: Around<'_>) 
 }
 
 /// Writes a value that is such a part, behind another.
-fn put_value(text: &mut Written, part: Part, before: Value, value: Value, around: Around<'_>) {
+fn put_value(text: &mut Sink, part: Part, before: Value, value: Value, around: Around<'_>) {
     match value {
         Value::Originator => text.put(" o"),
         Value::Null if part == Part::CancelOrNull => text.put(" none"),
@@ -164,7 +163,7 @@ fn put_value(text: &mut Written, part: Part, before: Value, value: Value, around
 }
 
 /// Writes the answer that a condition names.
-fn put_answer_named(text: &mut Written, answer: ExpectedAnswer, known: Known) {
+fn put_answer_named(text: &mut Sink, answer: ExpectedAnswer, known: Known) {
     match answer {
         ExpectedAnswer::Status(status) => put_status(text, status),
         ExpectedAnswer::Previous(Some(id)) => {
@@ -176,7 +175,7 @@ fn put_answer_named(text: &mut Written, answer: ExpectedAnswer, known: Known) {
 }
 
 /// Writes what a step hangs on, by the made-up name of the step above.
-fn put_condition(text: &mut Written, condition: Condition, known: Known) {
+fn put_condition(text: &mut Sink, condition: Condition, known: Known) {
     put_numbered(text, " if step_", u64::from(condition.step));
     text.put(" is");
     if !condition.wanted {
@@ -194,7 +193,7 @@ fn is_named(steps: &[Step], place: usize) -> bool {
 }
 
 /// Writes what the word of a step is followed by: its keys with their values.
-fn put_keys(text: &mut Written, line: &StepLine, around: Around<'_>) {
+fn put_keys(text: &mut Sink, line: &StepLine, around: Around<'_>) {
     let mut before = Value::Absent;
     for (key, value) in line.act.keys().iter().zip(line.values.iter()) {
         put_word(text, key.0);
@@ -204,7 +203,7 @@ fn put_keys(text: &mut Written, line: &StepLine, around: Around<'_>) {
 }
 
 /// Writes a step, on a line. Those of this list are the script's, where it may hang on one of them.
-fn put_step(text: &mut Written, step: Step, place: usize, steps: &[Step], around: Around<'_>) {
+fn put_step(text: &mut Sink, step: Step, place: usize, steps: &[Step], around: Around<'_>) {
     let line = line_of(step);
     text.put("  ");
     if is_named(steps, place) {
@@ -221,13 +220,7 @@ fn put_step(text: &mut Written, step: Step, place: usize, steps: &[Step], around
 }
 
 /// Writes steps, below their heading. Those of the last list may hang on one another.
-fn put_steps(
-    text: &mut Written,
-    heading: &str,
-    steps: &[Step],
-    hanging: &[Step],
-    around: Around<'_>,
-) {
+fn put_steps(text: &mut Sink, heading: &str, steps: &[Step], hanging: &[Step], around: Around<'_>) {
     if !steps.is_empty() {
         text.put(heading);
     }
@@ -237,7 +230,7 @@ fn put_steps(
 }
 
 /// Writes a heading before the first member of a list, and a member's made-up name with a colon.
-fn put_name(text: &mut Written, at: usize, heading: &str, word: &str, number: u64) {
+fn put_name(text: &mut Sink, at: usize, heading: &str, word: &str, number: u64) {
     if at == 0 {
         text.put(heading);
     }
@@ -248,7 +241,7 @@ fn put_name(text: &mut Written, at: usize, heading: &str, word: &str, number: u6
 }
 
 /// Writes the completion routines, below their heading, and counts them.
-fn put_completions(text: &mut Written, routines: &[CompletionRoutine]) -> Known {
+fn put_completions(text: &mut Sink, routines: &[CompletionRoutine]) -> Known {
     let mut known = Known::NONE;
     for (at, routine) in routines.iter().enumerate() {
         let (rule, word) = (routine.rule, routine.rule.name());
@@ -269,7 +262,7 @@ fn put_completions(text: &mut Written, routines: &[CompletionRoutine]) -> Known 
 }
 
 /// Writes what a cancel routine answers.
-fn put_answer(text: &mut Written, answer: CancelAnswer) {
+fn put_answer(text: &mut Sink, answer: CancelAnswer) {
     match answer {
         CancelAnswer::Finish { information } => {
             text.put(" finish");
@@ -280,7 +273,7 @@ fn put_answer(text: &mut Written, answer: CancelAnswer) {
 }
 
 /// Writes what the cancel routines answer, below their heading.
-fn put_cancels(text: &mut Written, answers: &[CancelAnswer]) {
+fn put_cancels(text: &mut Sink, answers: &[CancelAnswer]) {
     for (at, answer) in answers.iter().enumerate() {
         put_name(text, at, "\ncancels\n", "cancel", at as u64);
         put_answer(text, *answer);
@@ -289,7 +282,7 @@ fn put_cancels(text: &mut Written, answers: &[CancelAnswer]) {
 }
 
 /// Writes a plan, behind its made-up name.
-fn put_plan(text: &mut Written, plan: PlanLine, around: Around<'_>) {
+fn put_plan(text: &mut Sink, plan: PlanLine, around: Around<'_>) {
     put_word(text, plan.kind.word());
     for (part, value) in plan.kind.parts().iter().zip(plan.values.iter()) {
         put_value(text, *part, Value::Absent, *value, around);
@@ -298,7 +291,7 @@ fn put_plan(text: &mut Written, plan: PlanLine, around: Around<'_>) {
 }
 
 /// Writes the plans of the dispatches, below their heading.
-fn put_plans(text: &mut Written, plans: &[Plan], around: Around<'_>) {
+fn put_plans(text: &mut Sink, plans: &[Plan], around: Around<'_>) {
     for (at, plan) in plans.iter().enumerate() {
         let line = plan_line(*plan);
         put_name(text, at, "\ndispatches\n", line.kind.word(), at as u64);
@@ -307,7 +300,7 @@ fn put_plans(text: &mut Written, plans: &[Plan], around: Around<'_>) {
 }
 
 /// Writes a dispatch by its made-up name, such as hold_0, or by its number where the script lacks it.
-fn put_dispatch(text: &mut Written, id: DispatchId, plans: &[Plan]) {
+fn put_dispatch(text: &mut Sink, id: DispatchId, plans: &[Plan]) {
     text.put(" ");
     if let Some(plan) = plans.get(id.0 as usize) {
         text.put(plan_line(*plan).kind.word());
@@ -317,7 +310,7 @@ fn put_dispatch(text: &mut Written, id: DispatchId, plans: &[Plan]) {
 }
 
 /// Writes a driver's table, and ends its line.
-fn put_table(text: &mut Written, table: &[(u8, DispatchId)], plans: &[Plan]) {
+fn put_table(text: &mut Sink, table: &[(u8, DispatchId)], plans: &[Plan]) {
     if table.is_empty() {
         text.put(" nothing");
     }
@@ -329,7 +322,7 @@ fn put_table(text: &mut Written, table: &[(u8, DispatchId)], plans: &[Plan]) {
 }
 
 /// Writes the drivers, below their heading.
-fn put_drivers(text: &mut Written, drivers: &[Row<(u8, DispatchId)>], plans: &[Plan]) {
+fn put_drivers(text: &mut Sink, drivers: &[Row<(u8, DispatchId)>], plans: &[Plan]) {
     for (at, table) in drivers.iter().enumerate() {
         put_name(text, at, "\ndrivers\n", "driver", at as u64);
         put_table(text, table.as_slice(), plans);
@@ -337,7 +330,7 @@ fn put_drivers(text: &mut Written, drivers: &[Row<(u8, DispatchId)>], plans: &[P
 }
 
 /// Writes the form and the counts.
-fn put_top(text: &mut Written, parts: &ScriptParts) {
+fn put_top(text: &mut Sink, parts: &ScriptParts) {
     match parts.form {
         ScriptForm::One => text.put("form 1"),
         ScriptForm::Two { slots } => put_numbered(text, "form 2\nslots ", u64::from(slots)),
@@ -349,7 +342,7 @@ fn put_top(text: &mut Written, parts: &ScriptParts) {
 }
 
 /// Writes a script in words.
-fn put_script(text: &mut Written, parts: &ScriptParts) {
+fn put_script(text: &mut Sink, parts: &ScriptParts) {
     put_top(text, parts);
     let known = put_completions(text, parts.completions.as_slice());
     let plans = parts.dispatches.as_slice();
@@ -380,9 +373,9 @@ fn put_script(text: &mut Written, parts: &ScriptParts) {
 /// As `read_script` has them.
 pub fn words(alloc: Global, bytes: &[u8]) -> Result<String, ScriptFault> {
     let script = read_script(alloc, bytes)?;
-    let mut text = Written::new(alloc);
+    let mut text = Sink::new(alloc);
     put_script(&mut text, script.parts());
-    match text.ended() {
+    match text.finish() {
         Ok(text) => Ok(text),
         Err(_) => Err(ScriptFault::NoMemory),
     }

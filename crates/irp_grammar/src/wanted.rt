@@ -1,8 +1,7 @@
 //! What was expected in the place of a word.
 
 use crate::names::named_as;
-use crate::written::Written;
-use irp_names::{Act, Part};
+use irp_names::{Act, Part, Sink};
 use irp_script_reader::{MemberFault, ScriptRefusal, Section};
 
 /// What was expected in the place of a word (this project's own rule).
@@ -124,7 +123,7 @@ fn part_words(part: Part) -> &'static str {
 }
 
 /// Puts what a part may be.
-fn put_part(text: &mut Written, part: Part) {
+fn put_part(text: &mut Sink, part: Part) {
     match part_words(part) {
         "" => {
             text.put("a ");
@@ -174,7 +173,7 @@ impl Wanted {
     }
 
     /// Puts what was expected.
-    pub fn write(self, text: &mut Written) {
+    pub fn write(self, text: &mut Sink) {
         match self {
             Wanted::Of(part) => put_part(text, part),
             Wanted::NewName(part) => {
@@ -191,15 +190,15 @@ impl Wanted {
 }
 
 /// Puts what a script has that is taken, and why one is refused.
-fn put_refusal(text: &mut Written, words: &str, refusal: ScriptRefusal) {
+fn put_refusal(text: &mut Sink, words: &str, refusal: ScriptRefusal) {
     text.put(words);
     text.put(" (");
-    text.refusal(refusal);
+    text.show(refusal);
     text.put(")");
 }
 
 /// Puts the keys of a step, each behind a blank.
-fn put_keys(text: &mut Written, act: Act) {
+fn put_keys(text: &mut Sink, act: Act) {
     text.put("a key of ");
     text.put(act.word());
     text.put(", each once:");

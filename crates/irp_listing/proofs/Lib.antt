@@ -1,4 +1,3 @@
 pub mod Adding
 pub mod Chosen
-pub mod Telling
 pub mod Worded

@@ -2,7 +2,7 @@
 use Rattle.std.specs.Prelude.{ℕ, Bool, true, false, is_some, not, List, [], ◌++◌, codes, length, ◌==◌, if◌then◌else◌}
 use Rattle.std.specs.Fmt.{decimal}
 use Rattle.std.specs.Option.{option_map_or}
-use Rattle.irp_types.specs.Calls.{Call, packet_completed}
+use Rattle.irp_types.specs.Calls.{Call, packet_completed, party_named}
 use Rattle.irp_types.specs.declared.asked.Asked.{Asked}
 use Rattle.irp_types.specs.declared.call.Call.TheVariants.{CallDriver, Cancel}
 use Rattle.irp_types.specs.declared.call.Party.{Party}
@@ -10,7 +10,7 @@ use Rattle.irp_types.specs.declared.entry.Entry.{Entry}
 use Rattle.irp_types.specs.declared.refusal.Refusal.{Refusal}
 use Rattle.irp_types.specs.declared.reply.Reply.{Reply}
 use Rattle.irp_types.specs.declared.reply.Reply.TheVariants.{Done, Refused}
-use Rattle.irp_names.specs.Calls.{call_text, caller_of}
+use Rattle.irp_names.specs.Calls.{call_text}
 use Rattle.irp_names.specs.Refusals.{refusal_meaning, refusal_name, refusal_text}
 use Rattle.irp_names.specs.Replies.{reply_text}
 use Rattle.irp_names.specs.Small.{party_text}
@@ -18,7 +18,7 @@ use Rattle.irp_names.specs.Small.{party_text}
 -- a call behind the party that makes it, where it names one
 abbrev pub caller_text : Call → Bool → List ℕ
 caller_text call drained =
-    option_map_or (λ (party : Party). party_text party ++ (codes ": " ++ call_text call drained)) (caller_of call)
+    option_map_or (λ (party : Party). party_text party ++ (codes ": " ++ call_text call drained)) (party_named call)
     (call_text call drained)
 
 -- the call sends or completes its packet; a Cancel does where it asked somebody

@@ -9,8 +9,7 @@ use crate::outcome::{OutcomeWords, moves, outcome_of, sends};
 use crate::questions::QuestionWords;
 use crate::stacks::Stacks;
 use irp_names::{
-    AnsweredWords, CallWords, PartyWords, RefusalWords, ReplyWords, caller_of, refusal_meaning,
-    refusal_name, shown_of,
+    AnsweredWords, CallWords, PartyWords, RefusalWords, ReplyWords, refusal_meaning, refusal_name,
 };
 use irp_types::{Asked, Call, Entry, Refusal, Reply};
 use std::alloc::AllocError;
@@ -138,7 +137,7 @@ impl fmt::Display for CallerWords {
     fn fmt<W: fmt::Write>(&self, f: &mut fmt::Formatter<W>) -> fmt::Result {
         let CallerWords { call, drained } = *self;
         let words = CallWords { call, drained };
-        match caller_of(call) {
+        match call.party() {
             Some(party) => write!(f, "{}: {}", PartyWords(party), words),
             None => write!(f, "{}", words),
         }
@@ -178,7 +177,7 @@ fn put_question(
 ) -> Result<(), AllocError>
     ensures { OnOk result (AddsLines 2 out.old.items out.new.items) }
 {
-    let depth = match shown_of(question).device {
+    let depth = match question.shown().device {
         Some(device) => stacks.count_above(device) + 1,
         None => 0,
     };

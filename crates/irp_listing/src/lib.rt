@@ -10,7 +10,6 @@ mod outcome;
 mod questions;
 mod stacks;
 mod word_lines;
-mod writing;
 
 pub use blocks::CallerWords;
 pub use choosing::{Choice, is_chosen};
@@ -21,4 +20,3 @@ pub use outcome::{EndWords, Outcome, moves, outcome_of};
 pub use questions::AskedWords;
 pub use stacks::Stacks;
 pub use word_lines::WordLineWords;
-pub use writing::{Unwritten, send};

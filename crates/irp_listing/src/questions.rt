@@ -1,6 +1,6 @@
 //! Questions and what came of them, in words.
 
-use irp_names::{ClosureWords, MajorWords, ResultWords, shown_of, told_if};
+use irp_names::{ClosureWords, MajorWords, ResultWords, told_if};
 use irp_types::{Asked, DeviceId, Shown, Status};
 use std::fmt;
 
@@ -29,7 +29,7 @@ impl fmt::Display for AskedWords {
         write!(
             f,
             "{} {}{}",
-            Asker(shown_of(self.0).device),
+            Asker(self.0.shown().device),
             ClosureWords(self.0),
             ShownWords(self.0)
         )

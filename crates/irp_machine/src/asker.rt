@@ -12,7 +12,7 @@ use irp_steps::{table_answer, table_plan};
 use irp_transcript::Header;
 use irp_types::{
     Answer, CancelAnswer, CancelId, CancelRule, DispatchId, DriverId, Known, Plan, RoutineId, Rule,
-    Shown, Status,
+    Shown,
 };
 
 /// The closures of a script: each answers what the script tells of it, where the header's tables allow that, and else
@@ -23,19 +23,6 @@ pub struct ScriptAsker<'a> {
     script: &'a ScriptParts,
     ghost agree: { AreTables (fixed_of header.now).tables } by { Prim.hlevel props },
 }
-
-/// A finish as an invalid request.
-const INVALID_REQUEST: Plan = Plan::Finish {
-    status: Status::INVALID_DEVICE_REQUEST,
-    information: 0,
-};
-
-/// An answer that replaces nothing, keeps nothing and marks nothing.
-const CONTINUES: Answer = Answer {
-    keep: false,
-    mark: false,
-    replacement: None,
-};
 
 /// The completion routine of this number among those of a rule.
 fn routine_at(routines: &[CompletionRoutine], rule: Rule, number: u32) -> Option<CompletionRoutine>
@@ -59,7 +46,7 @@ fn answer_at(routines: &[CompletionRoutine], rule: Rule, number: u32, shown: Sho
 {
     match routine_at(routines, rule, number) {
         Some(routine) => table_answer(routine, shown),
-        None => CONTINUES,
+        None => Answer::CONTINUES,
     }
 }
 
@@ -69,7 +56,7 @@ fn plan_at(plans: &[Plan], number: u32, shown: Shown) -> Plan
 {
     match plans.get(number as usize) {
         Some(plan) => table_plan(*plan, shown),
-        None => INVALID_REQUEST,
+        None => Plan::INVALID_REQUEST,
     }
 }
 

@@ -7,8 +7,7 @@ ghost use Rattle.irp_manager.specs.Passing.{PassesPlan, PassesAnswer, PassesCanc
 
 use irp_routines::{Ask, FixedTables, guarded_answer, guarded_cancel, guarded_plan};
 use irp_types::{
-    Answer, CancelAnswer, CancelId, CancelRule, DispatchId, DriverId, Known, Plan, RoutineId,
-    Shown, Status,
+    Answer, CancelAnswer, CancelId, CancelRule, DispatchId, DriverId, Known, Plan, RoutineId, Shown,
 };
 
 /// An asker, and the tables that a history is judged by. Each answer that it gives is allowed by these tables. Where
@@ -40,12 +39,6 @@ impl<A: Drop> GuardedAsk<A> {
         tables
     }
 }
-
-/// A finish as an invalid request.
-const INVALID_REQUEST: Plan = Plan::Finish {
-    status: Status::INVALID_DEVICE_REQUEST,
-    information: 0,
-};
 
 impl<A: Ask> Ask for GuardedAsk<A> {
     ghost tables = { λ held. held.tables };
@@ -90,7 +83,7 @@ impl<A: Ask> Ask for GuardedAsk<A> {
     #[inline]
     fn plan(&self, id: DispatchId, shown: Shown) -> Plan {
         let known = self.known_of(id);
-        let mut plan = INVALID_REQUEST;
+        let mut plan = Plan::INVALID_REQUEST;
         if id.0 < self.ask.dispatches() {
             plan = self.ask.plan(id, shown);
         }
@@ -99,11 +92,7 @@ impl<A: Ask> Ask for GuardedAsk<A> {
 
     #[inline]
     fn answer(&self, id: RoutineId, shown: Shown) -> Answer {
-        let mut answer = Answer {
-            keep: false,
-            mark: false,
-            replacement: None,
-        };
+        let mut answer = Answer::CONTINUES;
         if id.no < self.ask.counts().count_of(id.rule) {
             answer = self.ask.answer(id, shown);
         }

@@ -1,8 +1,7 @@
 -- Calls in words.
-use Rattle.std.specs.Prelude.{ℕ, ◌==◌, Bool, true, false, List, [], ◌++◌, codes, Option, if◌then◌else◌}
+use Rattle.std.specs.Prelude.{ℕ, ◌==◌, Bool, true, false, List, [], ◌++◌, codes, if◌then◌else◌}
 use Rattle.std.specs.Fmt.{decimal}
-use Rattle.irp_types.specs.Calls.{Call, party_named}
-use Rattle.irp_types.specs.declared.call.Party.{Party}
+use Rattle.irp_types.specs.Calls.{Call}
 use Rattle.irp_types.specs.declared.call.Call.TheVariants as call
 use Rattle.irp_types.specs.declared.routine.Setting.{Setting}
 use Rattle.irp_names.specs.declared.step_names.Act.{Act}
@@ -52,10 +51,6 @@ call_name (call.FinishTaken irp token status information) = codes "IoCompleteReq
 call_name (call.SetCancelRoutine party irp cancel) = codes "IoSetCancelRoutine"
 call_name (call.Cancel irp) = codes "IoCancelIrp"
 call_name (call.Look irp) = codes "look at"
-
--- the party that a call names, if it names one
-abbrev pub caller_of : Call → Option Party
-caller_of call = party_named call
 
 -- on what a completion routine is asked
 abbrev pub flags_words : Bool → Bool → Bool → List ℕ

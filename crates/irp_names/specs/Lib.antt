@@ -7,6 +7,7 @@ pub mod Plans
 pub mod Refusals
 pub mod Replies
 pub mod Rows
+pub mod Sinks
 pub mod Small
 pub mod Statuses
 pub mod Steps

@@ -1,7 +1,7 @@
 //! Calls of the manager.
 
 ghost use Rattle.std.specs.Prelude.{◌≡◌, Some};
-ghost use Rattle.irp_names.specs.Calls.{arguments_text, call_name, call_text, caller_of, further_text, knowledge, locations_text};
+ghost use Rattle.irp_names.specs.Calls.{arguments_text, call_name, call_text, further_text, knowledge, locations_text};
 ghost use Rattle.irp_names.specs.Small.{cancel_text};
 
 use crate::closures::SettingWords;
@@ -9,7 +9,7 @@ use crate::majors::MajorWords;
 use crate::small::{Hex, PacketWords};
 use crate::statuses::{ResultWords, StatusWords};
 use crate::step_names::act_of;
-use irp_types::{Call, CancelId, Party};
+use irp_types::{Call, CancelId};
 use std::fmt;
 
 /// The routine of Windows that a call stands for (docs/RULES.md, The eighteen calls). Look stands for none: it reads
@@ -19,13 +19,6 @@ pub fn call_name(call: Call) -> &'static str
     ensures { result.now ≡ call_name call }
 {
     act_of(call).windows_name()
-}
-
-/// The party that a call names. None where it names none (docs/RULES.md, Who may do what).
-pub fn caller_of(call: Call) -> Option<Party>
-    ensures { result ≡ caller_of call }
-{
-    call.party()
 }
 
 /// A call with its arguments, as a driver would write it, such as `IoCallDriver(D2, IRP 0.1)`. Of a Delete it tells

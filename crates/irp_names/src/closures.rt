@@ -6,7 +6,7 @@ ghost use Rattle.irp_names.specs.Closures.{PlansAreToldApart, answer_text, answe
 
 use crate::small::{Hex, RoutineWords, told_if};
 use crate::statuses::ResultWords;
-use irp_types::{Answer, Asked, CancelAnswer, CancelId, Plan, Replacement, Setting, Shown};
+use irp_types::{Answer, Asked, CancelAnswer, CancelId, Plan, Replacement, Setting};
 use std::fmt;
 
 /// A closure by its name, as `dispatch 2`, `keeper 0` or `cancel routine 1`.
@@ -207,15 +207,6 @@ impl fmt::Display for CancelAnswerWords {
             ),
             CancelAnswer::Leave => f.write_str("leaves the packet with its device"),
         }
-    }
-}
-
-/// What a question showed.
-pub fn shown_of(question: Asked) -> Shown {
-    match question {
-        Asked::Dispatch { shown, .. } => shown,
-        Asked::Completion { shown, .. } => shown,
-        Asked::Cancel { shown, .. } => shown,
     }
 }
 

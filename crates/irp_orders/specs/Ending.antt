@@ -2,8 +2,6 @@
 use Rattle.std.specs.Prelude.{ℕ, Bool, true, false}
 use Rattle.irp_condition.specs.declared.fault.Unread.{Unread}
 use Rattle.irp_condition.specs.declared.fault.Unread.TheVariants as unread
-use Rattle.irp_listing.specs.declared.writing.Unwritten.{Unwritten}
-use Rattle.irp_listing.specs.declared.writing.Unwritten.TheVariants as unwritten
 use Rattle.irp_machine.specs.declared.limits.NotFound.{NotFound}
 use Rattle.irp_machine.specs.declared.limits.NotFound.TheVariants as found
 use Rattle.irp_machine.specs.declared.limits.NotMade.{NotMade}
@@ -70,12 +68,7 @@ abbrev pub of_unread : Unread → Ending
 of_unread (unread.Fault fault) = RefusedCondition fault
 of_unread unread.NoMemory = NoMemory
 
--- of a text that isn't written
-abbrev pub of_unwritten : Unwritten → Ending
-of_unwritten unwritten.Failed = Failed
-of_unwritten unwritten.NoMemory = NoMemory
-
--- of an input that isn't read
+-- of an input that isn't read, or a text that isn't written
 abbrev pub of_unheard : StreamFault → Ending
 of_unheard stream.Failed = Failed
 of_unheard stream.NoMemory = NoMemory

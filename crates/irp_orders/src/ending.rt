@@ -4,7 +4,6 @@ ghost use Rattle.std.specs.Prelude.{◌≡◌};
 ghost use Rattle.irp_orders.specs.Ending.{has_line, status_of};
 
 use irp_condition::{ConditionFault, Unread};
-use irp_listing::Unwritten;
 use irp_machine::{NotFound, NotMade};
 use irp_program::{NoOpen, Unasked, Unopened};
 use irp_script_reader::{ScriptFault, ScriptRefusal};
@@ -199,19 +198,6 @@ impl From<NotMade> for Ending {
         match given {
             NotMade::Memory => Ending::NoMemory,
             NotMade::NoStep => Ending::NoOrder,
-        }
-    }
-}
-
-impl From<Unwritten> for Ending {
-    ghost use Rattle.irp_orders.specs.Ending.{of_unwritten};
-
-    ghost from_gives = { λ given ending. ending ≡ of_unwritten given };
-
-    fn from(given: Unwritten) -> Ending {
-        match given {
-            Unwritten::Failed => Ending::Failed,
-            Unwritten::NoMemory => Ending::NoMemory,
         }
     }
 }

@@ -3,7 +3,7 @@
 use crate::text::Text;
 use irp_listing::WordLineWords;
 use irp_machine::Answered;
-use irp_names::{PacketWords, PartyWords, ReplyWords, call_name, caller_of, told_if};
+use irp_names::{PacketWords, PartyWords, ReplyWords, call_name, told_if};
 use irp_script_reader::{Named, Step, StepAct};
 use irp_transcript::{Act, WordLine, WordReply};
 use irp_types::{Call, DeviceId, IrpRef, Reply, SlotAct};
@@ -53,7 +53,7 @@ fn put_arguments(
 /// Puts a call of a step and its reply.
 fn put_call(out: &mut Text, labels: &[String], named: Call<Named, u32>, reply: Reply) {
     let call = named.with(NO_PACKET, 0);
-    if let Some(party) = caller_of(call) {
+    if let Some(party) = call.party() {
         out.tell("", PartyWords(party));
         out.put(": ");
     }

@@ -1,10 +1,10 @@
 -- The page of a transcript, and what of it went out.
 use Rattle.std.specs.Prelude.{ℕ, ◌≡◌, ◌⊎◌, List, Option}
 use Rattle.irp_judge.specs.declared.verdict.Wrong.{Wrong}
-use Rattle.irp_listing.specs.Bytes.{Bytes}
-use Rattle.irp_listing.specs.Writing.{BreaksOff, IsQuiet, Written}
-use Rattle.irp_listing.specs.declared.writing.Unwritten.{Unwritten}
-use Rattle.irp_listing.specs.declared.writing.Unwritten.TheVariants.{NoMemory}
+use Rattle.irp_streams.specs.Streams.{Bytes}
+use Rattle.irp_streams.specs.Writing.{BreaksOff, IsQuiet, Written}
+use Rattle.irp_streams.specs.declared.reading.StreamFault.{StreamFault}
+use Rattle.irp_streams.specs.declared.reading.StreamFault.TheVariants.{NoMemory}
 use Rattle.irp_transcript.specs.Transcripts.{TranscriptValue}
 use Rattle.irp_page.specs.Choosing.{IsPageOf}
 use Rattle.irp_page.specs.declared.choosing.Choice.{Choice}
@@ -15,7 +15,7 @@ Draws choice wrong transcript old new before after =
     (text : List ℕ) × IsPageOf choice wrong transcript.entries text × Written text old new before after
 
 -- a beginning of such a page did; or nothing, where memory ran out
-abbrev pub DrawsPart : Choice → Option Wrong → TranscriptValue → Bytes → Bytes → ℕ → ℕ → Unwritten → Type 0
+abbrev pub DrawsPart : Choice → Option Wrong → TranscriptValue → Bytes → Bytes → ℕ → ℕ → StreamFault → Type 0
 DrawsPart choice wrong transcript old new before after fault =
     ((text : List ℕ) × IsPageOf choice wrong transcript.entries text × BreaksOff text old new before after fault)
     ⊎ (IsQuiet old new before after × (fault ≡ NoMemory))

@@ -5,5 +5,4 @@ pub mod Escaping
 pub mod Nesting
 pub mod Pages
 pub mod Pieces
-pub mod Sinks
 pub mod Tags

@@ -14,7 +14,7 @@ use crate::picture::Scene;
 use crate::tag::Tag;
 use crate::wrong::wrong_step;
 use irp_judge::Wrong;
-use irp_names::{CallWords, PartyWords, ReplyWords, caller_of, refusal_meaning, windows_name};
+use irp_names::{CallWords, PartyWords, ReplyWords, refusal_meaning, windows_name};
 use irp_types::{Call, Entry, Refusal, Reply};
 use std::alloc::{AllocError, Global};
 
@@ -50,7 +50,7 @@ fn put_caller(markup: &mut Markup, entry: &Entry, tells_seat: bool) {
         markup.close();
         markup.fixed(" ");
     }
-    if let Some(party) = caller_of(entry.call) {
+    if let Some(party) = entry.call.party() {
         markup.open(Tag::Span, &[word("class", "who")]);
         markup.show(PartyWords(party));
         markup.fixed(": ");

@@ -4,7 +4,7 @@ use crate::attribute::word;
 use crate::lives::{Life, sender_of, target_of};
 use crate::markup::Markup;
 use crate::tag::Tag;
-use irp_names::{MajorWords, shown_of};
+use irp_names::MajorWords;
 use irp_transcript::Header;
 use irp_types::{Call, DeviceId, DispatchId, DriverId, Entry, Reply};
 use std::alloc::{AllocError, Global};
@@ -145,7 +145,7 @@ pub fn rows_of(
 /// Whether an entry's packet reaches a device.
 fn reaches(entry: &Entry, device: DeviceId) -> bool {
     for question in entry.asked.as_slice() {
-        if shown_of(*question).device == Some(device) {
+        if question.shown().device == Some(device) {
             return true;
         }
     }
@@ -157,7 +157,7 @@ fn put_others(rows: &mut Vec<Option<DeviceId>>, entry: &Entry) -> Result<(), All
     put_row(rows, sender_of(entry.call))?;
     put_row(rows, target_of(entry.call))?;
     for question in entry.asked.as_slice() {
-        put_row(rows, shown_of(*question).device)?;
+        put_row(rows, question.shown().device)?;
     }
     Ok(())
 }

@@ -7,8 +7,7 @@ ghost use Rattle.irp_page.specs.Drafting.{HasDrafted};
 ghost use Rattle.irp_page.specs.Drawing.{Draws, DrawsPart};
 
 use crate::page::{Subject, page_of};
-use irp_listing::{Unwritten, send};
-use irp_streams::Out;
+use irp_streams::{Out, StreamFault, send};
 use std::alloc::Global;
 
 /// Sends the page of a transcript whose entries the draft was given. It marks the entry that the subject says is wrong, if
@@ -18,7 +17,7 @@ use std::alloc::Global;
 ///
 /// `Failed` where the output failed, and exactly then its count of failures rose: a beginning of the page went out, and
 /// not the whole. `NoMemory` where memory ran out, and nothing went out.
-pub fn draw<O: Out>(alloc: Global, output: &mut O, subject: &Subject) -> Result<(), Unwritten>
+pub fn draw<O: Out>(alloc: Global, output: &mut O, subject: &Subject) -> Result<(), StreamFault>
     ensures ok { (transcript : TranscriptValue) → HasDrafted subject.now.draft.now transcript.entries
         → OnOk result (Draws subject.now.draft.now.choice (option_copied subject.now.wrong) transcript
         (O.gone output.old) (O.gone output.new) (O.failures output.old) (O.failures output.new)) }
@@ -28,6 +27,6 @@ pub fn draw<O: Out>(alloc: Global, output: &mut O, subject: &Subject) -> Result<
 {
     match page_of(alloc, subject) {
         Ok(text) => send(output, text.as_slice()),
-        Err(_) => Err(Unwritten::NoMemory),
+        Err(_) => Err(StreamFault::NoMemory),
     }
 }

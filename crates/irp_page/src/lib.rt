@@ -20,7 +20,6 @@ mod picture;
 mod piece;
 mod places;
 mod signs;
-mod sink;
 mod style;
 mod tag;
 mod words;

@@ -1,7 +1,6 @@
 //! Where packets are, as the entries so far tell. Entries of any transcript can be followed, also illegal ones.
 
 use irp_listing::{Outcome, moves, outcome_of};
-use irp_names::{caller_of, shown_of};
 use irp_types::{Call, DeviceId, Entry, IrpRef, Party, Reply};
 use std::alloc::{AllocError, Global};
 use std::collections::HashMap;
@@ -43,7 +42,7 @@ impl Life {
         self.reach(sender_of(entry.call));
         self.reach(target_of(entry.call));
         for question in entry.asked.as_slice() {
-            self.reach(shown_of(*question).device);
+            self.reach(question.shown().device);
         }
         match outcome_of(entry) {
             Outcome::Held(device) | Outcome::Kept(device, ..) => self.owner = device,
@@ -60,7 +59,7 @@ fn bit(device: DeviceId) -> u64 {
 
 /// The device that makes a call, where a device does.
 pub fn sender_of(call: Call) -> Option<DeviceId> {
-    match caller_of(call) {
+    match call.party() {
         Some(Party::Device(device)) => Some(device),
         _ => None,
     }

@@ -8,11 +8,17 @@ ghost use Rattle.irp_page.specs.Pieces.{Puts, PutsNothing, piece_bytes, signs, t
 
 use crate::attribute::Attribute;
 use crate::piece::Piece;
-use crate::sink::{InWords, Sink};
 use crate::tag::Tag;
+use irp_names::Sink;
 use std::alloc::{AllocError, Global};
 use std::fmt;
 use std::marker::Model;
+
+/// What can be said in words.
+pub trait InWords: Drop {
+    /// Puts the words.
+    fn put(self, out: &mut Sink);
+}
 
 /// Markup that is built piece by piece: elements that are closed as they were opened, and words. It begins no entry,
 /// marks none and has no verdict.

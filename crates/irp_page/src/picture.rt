@@ -11,7 +11,7 @@ use crate::signs::{
 use crate::tag::Tag;
 use crate::words::StepWords;
 use irp_listing::{Outcome, outcome_of};
-use irp_names::{CallWords, call_name, caller_of, shown_of};
+use irp_names::{CallWords, call_name};
 use irp_types::{Asked, Call, DeviceId, Entry, Party, Status};
 
 /// What a picture is of.
@@ -31,13 +31,11 @@ impl Scene<'_> {
     /// Whether a row above all others is needed: for a seat that is no party, or for the end where a routine of the
     /// originator's was asked.
     fn has_head(&self) -> bool {
-        if caller_of(self.entry.call).is_none() {
+        if self.entry.call.party().is_none() {
             return true;
         }
         for question in self.entry.asked.as_slice() {
-            if matches!(question, Asked::Completion { .. })
-                && shown_of(*question).device.is_none()
-            {
+            if matches!(question, Asked::Completion { .. }) && question.shown().device.is_none() {
                 return true;
             }
         }
@@ -231,7 +229,7 @@ fn put_step(
     step: usize,
     question: Asked,
 ) -> Trail {
-    let top = scene.top(shown_of(question).device);
+    let top = scene.top(question.shown().device);
     let up = matches!(question, Asked::Completion { .. });
     if up {
         arrow_up(markup, trail, top);
@@ -312,7 +310,7 @@ pub fn put_picture(markup: &mut Markup, scene: &Scene) {
         ],
     );
     put_rows(markup, scene);
-    let start = match caller_of(scene.entry.call) {
+    let start = match scene.entry.call.party() {
         Some(party) => start_by_party(markup, scene, party),
         None => start_by_seat(markup, scene),
     };

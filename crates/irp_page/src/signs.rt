@@ -1,7 +1,7 @@
 //! What stands in the boxes of a picture: two short lines, and a class of style.
 
-use crate::sink::{InWords, Sink};
-use irp_names::{RoutineWords, status_name};
+use crate::markup::InWords;
+use irp_names::{RoutineWords, Sink, status_name};
 use irp_types::{Answer, Asked, CancelAnswer, CancelId, Plan, Setting, Shown, Status};
 
 /// Puts a status by its name without the prefix, as SUCCESS, or in hexadecimal.

@@ -1,11 +1,10 @@
 //! Steps in words, and the part of remove locks and cancel slots.
 
 use crate::attribute::word;
-use crate::markup::Markup;
-use crate::sink::{InWords, Sink};
+use crate::markup::{InWords, Markup};
 use crate::tag::Tag;
 use irp_listing::{AskedWords, WordLineWords};
-use irp_names::AnsweredWords;
+use irp_names::{AnsweredWords, Sink};
 use irp_transcript::{Act, WordLine};
 use irp_types::{Asked, LockAct, SlotAct};
 use std::alloc::{AllocError, Global};

@@ -4,7 +4,7 @@
 ghost use Rattle.std.specs.Prelude.{◌≡◌};
 ghost use Rattle.irp_routines.specs.Guarded.{fixed_keep, fixed_answer, guarded_answer, guarded_plan, guarded_cancel};
 
-use irp_types::{Answer, CancelAnswer, CancelRule, Known, Plan, Rule, Shown, Status};
+use irp_types::{Answer, CancelAnswer, CancelRule, Known, Plan, Rule, Shown};
 
 /// Whether a completion routine keeps the packet where its rule leaves it no choice; it continues where it has one.
 fn fixed_keep(rule: Rule, shown: Shown) -> bool
@@ -48,10 +48,7 @@ pub fn guarded_plan(known: Known, shown: Shown, plan: Plan) -> Plan
     if known.allows(shown, plan) {
         return plan;
     }
-    Plan::Finish {
-        status: Status::INVALID_DEVICE_REQUEST,
-        information: 0,
-    }
+    Plan::INVALID_REQUEST
 }
 
 /// The answer of a cancel routine where its rule allows it, else Leave, and a finish with information 0 where the

@@ -52,10 +52,7 @@ pub fn table_plan(plan: Plan, shown: Shown) -> Plan
 {
     match plan {
         Plan::Skip | Plan::Forward { .. } | Plan::ForwardPend { .. } if !shown.has_lower => {
-            Plan::Finish {
-                status: Status::INVALID_DEVICE_REQUEST,
-                information: 0,
-            }
+            Plan::INVALID_REQUEST
         }
         Plan::Hold { cancel: Some(_) } if shown.cancel => Plan::Finish {
             status: Status::CANCELLED,

@@ -1,2 +1,3 @@
 pub mod Out
 pub mod Streams
+pub mod Writing

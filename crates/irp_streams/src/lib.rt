@@ -5,6 +5,6 @@ mod out;
 mod reading;
 mod writer_out;
 
-pub use out::{Failed, Out, put_all};
+pub use out::{Failed, Out, put_all, send};
 pub use reading::{StreamFault, read_up_to};
 pub use writer_out::WriterOut;

@@ -4,7 +4,10 @@ ghost use Rattle.std.specs.Prelude.{◌≡◌, ◌<◌, ◌≤◌, ℕ, List, Op
 ghost use Rattle.std.specs.Prelude.{IfErr, IfOk, OnErr, OnOk};
 ghost use Rattle.std.specs.Io.KnownBytes.{Appends, WriteAppends};
 ghost use Rattle.irp_streams.specs.Out.{risen, counted};
+ghost use Rattle.irp_streams.specs.Writing.{BreaksOff, Written};
+ghost use Rattle.irp_streams.specs.declared.reading.StreamFault.TheVariants.{Failed as HasFailed};
 
+use crate::reading::StreamFault;
 use thiserror::Error;
 
 /// A put that failed: the output took nothing.
@@ -53,4 +56,23 @@ pub fn put_all<O: Out>(out: &mut O, text: &[u8]) -> Result<(), usize>
         done += taken;
     }
     Ok(())
+}
+
+/// Sends these bytes.
+///
+/// # Errors
+///
+/// `Failed`, the one error, where the output failed, and exactly then its count of failures rose: a beginning of the
+/// bytes went out, and not the whole.
+pub fn send<O: Out>(output: &mut O, bytes: &[u8]) -> Result<(), StreamFault>
+    ensures ok { OnOk result (Written bytes.now (O.gone output.old) (O.gone output.new)
+        (O.failures output.old) (O.failures output.new)) }
+    ensures err { IfErr result (BreaksOff bytes.now (O.gone output.old) (O.gone output.new)
+        (O.failures output.old) (O.failures output.new)) }
+    ensures fault { IfErr result (λ fault. fault ≡ HasFailed) }
+{
+    match put_all(output, bytes) {
+        Ok(()) => Ok(()),
+        Err(_) => Err(StreamFault::Failed),
+    }
 }

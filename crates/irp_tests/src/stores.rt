@@ -25,12 +25,7 @@ fn answered(notes: &Notes, rule: Rule, digit: u32, shown: Shown) -> Answer
     ensures { is_allowed rule shown result ≡ true }
 {
     notes.note(digit.wrapping_add((shown.context % 10) as u32));
-    let answer = Answer {
-        keep: false,
-        mark: false,
-        replacement: None,
-    };
-    guarded_answer(rule, shown, answer)
+    guarded_answer(rule, shown, Answer::CONTINUES)
 }
 
 /// Notes its digit, and answers so, where its rule lets it.

@@ -13,8 +13,9 @@ use crate::script_words::check_part;
 use crate::steps::check_step;
 use crate::tokens::{Token, tokens_of};
 use crate::top::{check_top, key_of, no_list, tell_count, tell_form, too_long};
-use crate::words::{Finding, Piece, put};
-use Piece::{Number, Say};
+use crate::words::{Finding, Piece};
+use Piece::Say;
+use irp_names::Sink;
 use irp_script_reader::MemberFault::{BadField, RuleBroken};
 use irp_script_reader::{ScriptFault, ScriptRefusal, Section, read_script};
 use std::alloc::{AllocError, Global};
@@ -30,52 +31,42 @@ pub struct FaultMessage {
     /// Where it stands.
     pub place: Place,
     /// What is wrong, what it may be, and a remedy where there is one.
-    words: Vec<u8>,
+    words: String,
 }
 
 impl FaultMessage {
-    /// Puts the message behind what the buffer holds, in one line without a newline: the section and the member, line
-    /// and column, what is wrong, what it may be, and a remedy where there is one. The one error is want of memory.
-    pub fn write(&self, out: &mut Vec<u8>) -> Result<(), AllocError> {
+    /// Puts the message, in one line without a newline: the section and the member, line and column, what is wrong, what
+    /// it may be, and a remedy where there is one.
+    pub fn write(&self, out: &mut Sink) {
         if let ScriptRefusal::At { section, index, .. } = self.refusal {
-            put_section(out, section, index)?;
+            put_section(out, section, index);
         }
-        put_place(out, self.place)?;
-        out.extend_from_slice(self.words.as_slice())
+        put_place(out, self.place);
+        out.put(self.words.as_str());
     }
 }
 
-/// Puts a section, and which of its members is meant. The one error is want of memory.
-pub fn put_section(out: &mut Vec<u8>, section: Section, index: usize) -> Result<(), AllocError> {
-    match section {
-        Section::Top => Ok(()),
-        Section::Seats | Section::Locks | Section::Slots => {
-            put(out, &[Say(key_of(section)), Say(", ")])
-        }
-        _ => put(
-            out,
-            &[
-                Say(key_of(section)),
-                Say("["),
-                Number(index as u64),
-                Say("], "),
-            ],
-        ),
+/// Puts a section, and which of its members is meant; nothing of the top.
+pub fn put_section(out: &mut Sink, section: Section, index: usize) {
+    if section == Section::Top {
+        return;
     }
+    out.put(key_of(section));
+    if !matches!(section, Section::Seats | Section::Locks | Section::Slots) {
+        out.put("[");
+        out.number(index as u64);
+        out.put("]");
+    }
+    out.put(", ");
 }
 
-/// Puts a place. The one error is want of memory.
-pub fn put_place(out: &mut Vec<u8>, place: Place) -> Result<(), AllocError> {
-    put(
-        out,
-        &[
-            Say("line "),
-            Number(place.line as u64),
-            Say(", column "),
-            Number(place.column as u64),
-            Say(": "),
-        ],
-    )
+/// Puts a place.
+pub fn put_place(out: &mut Sink, place: Place) {
+    out.put("line ");
+    out.number(place.line as u64);
+    out.put(", column ");
+    out.number(place.column as u64);
+    out.put(": ");
 }
 
 /// Whether a member of a section is right.
@@ -154,7 +145,7 @@ fn fault_of(found: Finding<'_>, refusal: ScriptRefusal) -> Result<FaultMessage, 
     ensures { IfOk result (λ fault. fault.refusal ≡ refusal) }
 {
     let place = found.place();
-    let words = found.ended()?;
+    let words = found.finish()?;
     Ok(FaultMessage {
         refusal,
         place,

@@ -32,4 +32,4 @@ pub use nodes::Node;
 pub use places::Place;
 pub use tokens::{Token, tokens_of};
 pub use top::key_of;
-pub use words::{Finding, Piece, Remedy, Span, put, there_are};
+pub use words::{Finding, Piece, Remedy, Span, there_are};

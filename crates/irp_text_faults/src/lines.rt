@@ -112,7 +112,6 @@ pub fn line_fault(
         return Ok(None);
     }
     let column = found.place().column;
-    let bytes = found.ended()?;
-    let words = String::from_utf8_lossy(alloc, bytes.as_slice())?;
+    let words = found.finish()?;
     Ok(Some(LineFault { column, words }))
 }

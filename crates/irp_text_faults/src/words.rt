@@ -4,6 +4,7 @@ use crate::nodes::Node;
 use crate::part::Key;
 use crate::places::{Place, place_of};
 use crate::tokens::cut;
+use irp_names::Sink;
 use irp_script_reader::MemberFault;
 use std::alloc::{AllocError, Global};
 
@@ -55,9 +56,7 @@ pub struct Finding<'t> {
     /// Where it stands in the text, counted in bytes.
     at: usize,
     fault: MemberFault,
-    words: Vec<u8>,
-    /// Whether memory ran out.
-    ran_out: bool,
+    words: Sink,
 }
 
 impl<'t> Finding<'t> {
@@ -68,8 +67,7 @@ impl<'t> Finding<'t> {
             text,
             at: 0,
             fault: MemberFault::BadField,
-            words: Vec::new(alloc),
-            ran_out: false,
+            words: Sink::new(alloc),
         }
     }
 
@@ -90,19 +88,37 @@ impl<'t> Finding<'t> {
 
     /// Remembers that memory ran out.
     pub fn run_out(&mut self) {
-        self.ran_out = true;
+        self.words.run_out();
+    }
+
+    /// Says a piece.
+    fn tell(&mut self, piece: Piece) {
+        match piece {
+            Piece::Say(words) => self.words.put(words),
+            Piece::Quoted(word) => self.words.quoted(word),
+            Piece::Number(number) => self.words.number(number),
+            Piece::Show(span) => {
+                put_shown(
+                    self.alloc,
+                    &mut self.words,
+                    cut(self.text, span.start, span.end),
+                );
+            }
+            Piece::Keys(keys) => put_keys(&mut self.words, keys),
+            Piece::Letter(letter) => put_letter(&mut self.words, letter),
+        }
     }
 
     /// Says more.
     pub fn say(&mut self, pieces: &[Piece]) {
-        if put_of(&mut self.words, self.text, pieces).is_err() {
-            self.ran_out = true;
+        for piece in pieces {
+            self.tell(*piece);
         }
     }
 
     /// Says these words.
     pub fn put(&mut self, words: &'static str) {
-        self.say(&[Piece::Say(words)]);
+        self.words.put(words);
     }
 
     /// This is wrong at a place of the text: its form, where nothing else is said. It is false.
@@ -140,19 +156,13 @@ impl<'t> Finding<'t> {
 
     /// This helps, or was meant. It is false.
     pub fn remedy(&mut self, remedy: Remedy) -> bool {
-        if put_remedy(&mut self.words, remedy).is_err() {
-            self.ran_out = true;
-        }
+        put_remedy(&mut self.words, remedy);
         false
     }
 
     /// What is said. The one error is that memory ran out.
-    pub fn ended(self) -> Result<Vec<u8>, AllocError> {
-        if self.ran_out {
-            Err(AllocError)
-        } else {
-            Ok(self.words)
-        }
+    pub fn finish(self) -> Result<String, AllocError> {
+        self.words.finish()
     }
 }
 
@@ -164,88 +174,72 @@ fn begins_character(byte: u8) -> bool {
     byte & 0xC0 != 0x80
 }
 
-/// Puts bytes in one line: a blank for each byte of control, and no more than the beginning of many. The one error is
-/// want of memory.
-fn put_shown(out: &mut Vec<u8>, bytes: &[u8]) -> Result<(), AllocError> {
+/// Bytes in one line: a blank for each byte of control, and no more than the beginning of many. The one error is want of
+/// memory.
+fn shown(alloc: Global, bytes: &[u8]) -> Result<String, AllocError> {
+    let mut shown = Vec::new(alloc);
     for (place, byte) in bytes.iter().enumerate() {
         if place >= MOST_SHOWN && begins_character(*byte) {
-            return out.extend_from_slice(b"..");
+            shown.extend_from_slice(b"..")?;
+            break;
         }
-        out.push(if *byte < b' ' { b' ' } else { *byte })?;
+        shown.push(if *byte < b' ' { b' ' } else { *byte })?;
     }
-    Ok(())
+    String::from_utf8_lossy(alloc, shown.as_slice())
 }
 
-/// Puts a number in decimal. The one error is want of memory.
-pub fn put_number(out: &mut Vec<u8>, number: u64) -> Result<(), AllocError> {
-    let mut buffer = itoa::Buffer::new();
-    out.extend_from_slice(buffer.format(number).as_bytes())
+/// Puts bytes in one line, as `shown` has them.
+fn put_shown(alloc: Global, out: &mut Sink, bytes: &[u8]) {
+    match shown(alloc, bytes) {
+        Ok(words) => out.put(words.as_str()),
+        Err(_) => out.run_out(),
+    }
 }
 
-/// Puts the names of keys, with a comma between them. The one error is want of memory.
-fn put_keys(out: &mut Vec<u8>, keys: &[Key]) -> Result<(), AllocError> {
+/// Puts the names of keys, with a comma between them.
+fn put_keys(out: &mut Sink, keys: &[Key]) {
     for (place, (name, _)) in keys.iter().enumerate() {
-        out.extend_from_slice(if place == 0 { "" } else { ", " }.as_bytes())?;
-        out.extend_from_slice(name.as_bytes())?;
+        out.put(if place == 0 { "" } else { ", " });
+        out.put(name);
     }
-    Ok(())
 }
 
-/// Puts a character of a key. The one error is want of memory.
-fn put_letter(out: &mut Vec<u8>, letter: char) -> Result<(), AllocError> {
+/// Puts a character of a key.
+fn put_letter(out: &mut Sink, letter: char) {
     match letter {
-        '"' => out.extend_from_slice(b"\\\""),
-        '\\' => out.extend_from_slice(b"\\\\"),
-        letter if letter < ' ' || ('\u{7f}' <= letter && letter < '\u{a0}') => Ok(out.push(b'?')?),
-        letter => out.extend_from_slice(letter.encode_utf8(&mut [0; 4]).as_bytes()),
+        '"' => out.put("\\\""),
+        '\\' => out.put("\\\\"),
+        letter if letter < ' ' || ('\u{7f}' <= letter && letter < '\u{a0}') => out.put("?"),
+        letter => out.put(letter.encode_utf8(&mut [0; 4])),
     }
 }
 
-/// Puts a word in quotation marks. The one error is want of memory.
-fn put_quoted(out: &mut Vec<u8>, word: &str) -> Result<(), AllocError> {
-    out.extend_from_slice(b"\"")?;
-    out.extend_from_slice(word.as_bytes())?;
-    out.extend_from_slice(b"\"")
-}
-
-/// Puts a piece. The one error is want of memory.
-fn put_piece(out: &mut Vec<u8>, text: &[u8], piece: Piece) -> Result<(), AllocError> {
-    match piece {
-        Piece::Say(words) => out.extend_from_slice(words.as_bytes()),
-        Piece::Quoted(word) => put_quoted(out, word),
-        Piece::Number(number) => put_number(out, number),
-        Piece::Show(span) => put_shown(out, cut(text, span.start, span.end)),
-        Piece::Keys(keys) => put_keys(out, keys),
-        Piece::Letter(letter) => put_letter(out, letter),
-    }
-}
-
-/// Puts what is said of a text, in order. The one error is want of memory.
-fn put_of(out: &mut Vec<u8>, text: &[u8], pieces: &[Piece]) -> Result<(), AllocError> {
-    for piece in pieces {
-        put_piece(out, text, *piece)?;
-    }
-    Ok(())
-}
-
-/// Puts pieces that show nothing of a text, in order. The one error is want of memory.
-pub fn put(out: &mut Vec<u8>, pieces: &[Piece]) -> Result<(), AllocError> {
-    put_of(out, &[], pieces)
-}
-
-/// Puts a remedy behind what is wrong. The one error is want of memory.
-fn put_remedy(out: &mut Vec<u8>, remedy: Remedy) -> Result<(), AllocError> {
-    use Piece::{Number, Say};
-    const MEANT: Piece = Say(". Did you mean ");
+/// Puts a remedy behind what is wrong.
+fn put_remedy(out: &mut Sink, remedy: Remedy) {
+    const MEANT: &str = ". Did you mean ";
     match remedy {
-        Remedy::Unknown => Ok(()),
-        Remedy::Word(word) => put(out, &[MEANT, Say("\""), Say(word), Say("\"?")]),
-        Remedy::Number(number) => put(out, &[MEANT, Number(number), Say("?")]),
-        Remedy::Named(number, name) => put(
-            out,
-            &[MEANT, Number(number), Say(" ("), Say(name), Say(")?")],
-        ),
-        Remedy::Do(words) => put(out, &[Say(". "), Say(words)]),
+        Remedy::Unknown => {}
+        Remedy::Word(word) => {
+            out.put(MEANT);
+            out.quoted(word);
+            out.put("?");
+        }
+        Remedy::Number(number) => {
+            out.put(MEANT);
+            out.number(number);
+            out.put("?");
+        }
+        Remedy::Named(number, name) => {
+            out.put(MEANT);
+            out.number(number);
+            out.put(" (");
+            out.put(name);
+            out.put(")?");
+        }
+        Remedy::Do(words) => {
+            out.put(". ");
+            out.put(words);
+        }
     }
 }
 

@@ -3,6 +3,7 @@ pub mod Status
 pub mod Refusal
 pub mod Rules
 pub mod Calls
+pub mod Questions
 pub mod Checks
 pub mod Packet
 pub mod Unwinding

@@ -56,3 +56,11 @@ pub enum Plan {
     /// Marks it pending, and passes it down as Forward does.
     ForwardPend { set: Option<Setting> },
 }
+
+impl Plan {
+    /// It completes the packet as an invalid request.
+    pub const INVALID_REQUEST: Plan = Plan::Finish {
+        status: Status::INVALID_DEVICE_REQUEST,
+        information: 0,
+    };
+}

@@ -1,5 +1,8 @@
 //! Questions that were asked of closures.
 
+ghost use Rattle.std.specs.Prelude.{◌≡◌};
+ghost use Rattle.irp_types.specs.Questions.{shown_of};
+
 use crate::answer::{Answer, CancelAnswer, Plan};
 use crate::names::{CancelId, DispatchId};
 use crate::routine::RoutineId;
@@ -23,4 +26,17 @@ pub enum Asked {
         shown: Shown,
         answer: CancelAnswer,
     },
+}
+
+impl Asked {
+    /// What it showed.
+    pub fn shown(self) -> Shown
+        ensures { result ≡ shown_of self }
+    {
+        match self {
+            Asked::Dispatch { shown, .. } => shown,
+            Asked::Completion { shown, .. } => shown,
+            Asked::Cancel { shown, .. } => shown,
+        }
+    }
 }

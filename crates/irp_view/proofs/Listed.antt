@@ -6,8 +6,8 @@ use Rattle.irp_transcript.specs.declared.header.Header.{Header}
 use Rattle.irp_streams.proofs.Pieces.{appends_none, appends_then}
 use Rattle.irp_feed.specs.Feeding.{Stops, header_alone}
 use Rattle.irp_feed.specs.Input.{Bytes, Holds}
-use Rattle.irp_listing.specs.Writing.{BreaksOff, Written, count_after}
-use Rattle.irp_listing.specs.declared.writing.Unwritten.{Unwritten}
+use Rattle.irp_streams.specs.Writing.{BreaksOff, Written, count_after}
+use Rattle.irp_streams.specs.declared.reading.StreamFault.{StreamFault}
 use Rattle.irp_view.specs.Listed.{Aim, Chosen, HasGathered, HasSent, IsFresh, IsGathered, ShowsInput, ShowsLines, StopsAt, aim_of, chosen_of}
 use Rattle.irp_view.specs.Showing.{IsShowing}
 use Rattle.irp_view.specs.Streams.{Output, streams_of}
@@ -20,9 +20,9 @@ use Rattle.irp_view.proofs.Gathered.{shows_none}
 -- ---- a line
 
 -- nothing failed
-sent_calm : (fault : Option Unwritten) (output : Output) (aim : Aim) (transcript : TranscriptValue) → fault ≡ None → ShowsLines aim.chosen transcript aim.before output
+sent_calm : (fault : Option StreamFault) (output : Output) (aim : Aim) (transcript : TranscriptValue) → fault ≡ None → ShowsLines aim.chosen transcript aim.before output
     → HasSent fault output aim transcript
-sent_calm fault output aim transcript none shows = subst (λ (given : Option Unwritten). HasSent given output aim transcript) (sym none) shows
+sent_calm fault output aim transcript none shows = subst (λ (given : Option StreamFault). HasSent given output aim transcript) (sym none) shows
 
 -- one more was gathered
 pub gathered_on : {E : Type 0} (result : Result (Unit {0}) E) (gathering : Gathering) (after : Shown) (output : Output) (aim : Aim) (ended before transcript : TranscriptValue)
@@ -44,7 +44,7 @@ pub written_then : (first second : List ℕ) (old mid new : Bytes) (before betwe
     → Written (first ++ second) old new before after
 written_then first second old mid new before between after one two = (appends_then first second old mid new one.0 two.0, two.1 ∙ one.1)
 
-breaks_then : (first second : List ℕ) (old mid new : Bytes) (before between after : ℕ) (fault : Unwritten) → Written first old mid before between
+breaks_then : (first second : List ℕ) (old mid new : Bytes) (before between after : ℕ) (fault : StreamFault) → Written first old mid before between
     → BreaksOff second mid new between after fault → BreaksOff (first ++ second) old new before after fault
 breaks_then first second old mid new before between after fault one two = (
   record {
@@ -83,11 +83,11 @@ module _ (gathering : Gathering) (mid new : Output) (aim : Aim) (ended before : 
         };
       }
 
-  pub block_left : (fault : Option Unwritten) → Written gathering.shown.text.items mid.gone new.gone mid.failures new.failures → fault ≡ gathering.fault → HasSent fault new aim before
+  pub block_left : (fault : Option StreamFault) → Written gathering.shown.text.items mid.gone new.gone mid.failures new.failures → fault ≡ gathering.fault → HasSent fault new aim before
   block_left fault written same = sent_calm fault new aim before (same ∙ has.calm) (shows_on written)
 
   -- the output failed
-  pub block_breaks : (fault : Unwritten) → BreaksOff gathering.shown.text.items mid.gone new.gone mid.failures new.failures fault → HasSent (Some fault) new aim before
+  pub block_breaks : (fault : StreamFault) → BreaksOff gathering.shown.text.items mid.gone new.gone mid.failures new.failures fault → HasSent (Some fault) new aim before
   block_breaks fault broken = record {
     text = has.shows.text ++ gathering.shown.text.items;
     is = has.is.shows;

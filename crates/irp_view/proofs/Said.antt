@@ -6,10 +6,10 @@ use Rattle.irp_transcript.specs.Transcripts.{TranscriptValue}
 use Rattle.irp_judge.specs.Checked.{IsExplained, IsVerdictOn, verdict_of}
 use Rattle.irp_judge.specs.declared.verdict.Wrong.{Wrong}
 use Rattle.irp_view.specs.Blocks.{AddsWhy, IsWhy}
-use Rattle.irp_listing.specs.Bytes.{Bytes}
-use Rattle.irp_listing.specs.Writing.{BreaksOff}
-use Rattle.irp_listing.specs.declared.writing.Unwritten.{Unwritten}
-use Rattle.irp_listing.specs.declared.writing.Unwritten.TheVariants.{NoMemory}
+use Rattle.irp_streams.specs.Streams.{Bytes}
+use Rattle.irp_streams.specs.Writing.{BreaksOff}
+use Rattle.irp_streams.specs.declared.reading.StreamFault.{StreamFault}
+use Rattle.irp_streams.specs.declared.reading.StreamFault.TheVariants.{NoMemory}
 use Rattle.irp_view.specs.RefusedCalls.{refused_from, refused_line}
 use Rattle.irp_view.specs.Telling.{AddsText, IsText, SaysNothing, Tells, legal_line, note_line}
 
@@ -64,7 +64,7 @@ says_nothing entries given wrong x some missing =
     subst (λ it. AddsText entries it x x) (sym some) (says_nowhere entries wrong x missing)
 
 -- the output failed behind a beginning of the text; the wrong entry is lent to what made the text
-pub breaks_off : (transcript : TranscriptValue) (wrong lent : Option Wrong) (text sent : List ℕ) (old new : Bytes) (before after : ℕ) (fault : Unwritten) → IsExplained transcript wrong → IsVerdictOn transcript (verdict_of (length transcript.entries) wrong) → lent ≡ wrong → IsText transcript lent text → sent ≡ text → BreaksOff sent old new before after fault → SaysNothing transcript old new before after fault
+pub breaks_off : (transcript : TranscriptValue) (wrong lent : Option Wrong) (text sent : List ℕ) (old new : Bytes) (before after : ℕ) (fault : StreamFault) → IsExplained transcript wrong → IsVerdictOn transcript (verdict_of (length transcript.entries) wrong) → lent ≡ wrong → IsText transcript lent text → sent ≡ text → BreaksOff sent old new before after fault → SaysNothing transcript old new before after fault
 breaks_off transcript wrong lent text sent old new before after fault explained judged same is all breaks =
     inl (
       verdict_of (length transcript.entries) wrong,

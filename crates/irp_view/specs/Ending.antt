@@ -3,8 +3,8 @@ use Rattle.std.specs.Prelude.{ℕ, List, ◌++◌, codes, Bool, true, false, Opt
 use Rattle.std.specs.Fmt.{decimal}
 use Rattle.irp_judge.specs.declared.verdict.Verdict.{Verdict}
 use Rattle.irp_judge.specs.declared.verdict.Verdict.TheVariants as verdict
-use Rattle.irp_listing.specs.declared.writing.Unwritten.{Unwritten}
-use Rattle.irp_listing.specs.declared.writing.Unwritten.TheVariants as unwritten
+use Rattle.irp_streams.specs.declared.reading.StreamFault.{StreamFault}
+use Rattle.irp_streams.specs.declared.reading.StreamFault.TheVariants as unwritten
 use Rattle.irp_program.specs.Opening.{reason_text}
 use Rattle.irp_program.specs.declared.opening.Unopened.{Unopened}
 use Rattle.irp_program.specs.declared.opening.Unopened.TheVariants as unopened
@@ -45,7 +45,7 @@ of_unread (unread.Refused line expected) = Refused line expected
 of_unread unread.NoMemory = NoMemory
 
 -- a text that wasn't written whole
-abbrev pub of_unwritten : Unwritten → Ending
+abbrev pub of_unwritten : StreamFault → Ending
 of_unwritten unwritten.Failed = Failed
 of_unwritten unwritten.NoMemory = NoMemory
 
@@ -60,7 +60,7 @@ of_verdict (verdict.Legal entries) = Done
 of_verdict (verdict.Illegal at) = Wrong
 
 -- what a result ends with
-abbrev pub ending_of : {T : Type 0} → (T → Ending) → Result T Unwritten → Ending
+abbrev pub ending_of : {T : Type 0} → (T → Ending) → Result T StreamFault → Ending
 ending_of of_value (Ok value) = of_value value
 ending_of of_value (Err fault) = of_unwritten fault
 

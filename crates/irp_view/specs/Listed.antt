@@ -5,8 +5,8 @@ use Rattle.irp_transcript.specs.Transcripts.{TranscriptValue}
 use Rattle.irp_feed.specs.Feeding.{Stops, TakesFirst}
 use Rattle.irp_feed.specs.Input.{Holds}
 use Rattle.irp_listing.specs.Listing.{are_none}
-use Rattle.irp_listing.specs.Writing.{BreaksOff}
-use Rattle.irp_listing.specs.declared.writing.Unwritten.{Unwritten}
+use Rattle.irp_streams.specs.Writing.{BreaksOff}
+use Rattle.irp_streams.specs.declared.reading.StreamFault.{StreamFault}
 use Rattle.irp_view.specs.Reading.{line_of}
 use Rattle.irp_view.specs.Showing.{IsShowing, Shows}
 use Rattle.irp_view.specs.Streams.{Output, Streams}
@@ -51,14 +51,14 @@ ShowsLines chosen transcript before after =
     Shows chosen.only chosen.span transcript before.gone after.gone before.failures after.failures
 
 -- a beginning of it went out, before this fault
-pub record BreaksLines (chosen : Chosen) (transcript : TranscriptValue) (before after : Output) (fault : Unwritten)
+pub record BreaksLines (chosen : Chosen) (transcript : TranscriptValue) (before after : Output) (fault : StreamFault)
     : Type 0 where
   pub text : List ℕ
   pub is : IsShowing chosen.only chosen.span transcript text
   pub broken : BreaksOff text before.gone after.gone before.failures after.failures fault
 
 -- what shows a transcript went out, or a beginning of it, before a fault if there was one
-abbrev pub HasSent : Option Unwritten → Output → Aim → TranscriptValue → Type 0
+abbrev pub HasSent : Option StreamFault → Output → Aim → TranscriptValue → Type 0
 HasSent None output aim transcript = ShowsLines aim.chosen transcript aim.before output
 HasSent (Some fault) output aim transcript = BreaksLines aim.chosen transcript aim.before output fault
 
@@ -80,7 +80,7 @@ StopsAt chosen line before after =
     × ShowsLines chosen transcript before.output after.output
 
 -- the output failed, or memory ran out for it, behind the first lines of the input's text
-abbrev pub BreaksAt : Chosen → Unwritten → Streams → Streams → Type 0
+abbrev pub BreaksAt : Chosen → StreamFault → Streams → Streams → Type 0
 BreaksAt chosen fault before after =
     (transcript : TranscriptValue) × TakesFirst before.left after.left transcript
     × BreaksLines chosen transcript before.output after.output fault

@@ -6,8 +6,8 @@ use Rattle.irp_judge.specs.declared.verdict.Verdict.{Verdict}
 use Rattle.irp_judge.specs.declared.verdict.Wrong.{Wrong}
 use Rattle.irp_feed.specs.Feeding.{HoldsNone}
 use Rattle.irp_feed.specs.Input.{Holds}
-use Rattle.irp_listing.specs.Writing.{BreaksOff, IsQuiet, Written}
-use Rattle.irp_listing.specs.declared.writing.Unwritten.{Unwritten}
+use Rattle.irp_streams.specs.Writing.{BreaksOff, IsQuiet, Written}
+use Rattle.irp_streams.specs.declared.reading.StreamFault.{StreamFault}
 use Rattle.irp_page.specs.Drawing.{Draws, DrawsPart}
 use Rattle.irp_view.specs.Ending.{ending_of, of_unread, of_unwritten, of_verdict}
 use Rattle.irp_view.specs.Listed.{BreaksAt, Chosen, StopsAt, chosen_of}
@@ -26,20 +26,20 @@ use Rattle.irp_view.specs.declared.reading.Unread.{Unread}
 -- a text went out; or a beginning of it, before a fault
 abbrev pub Helped : Output → Output → Ending → Type 0
 Helped before after ending =
-    (text : List ℕ) × (result : Result (Unit {0}) Unwritten) × (ending ≡ ending_of (λ done. Done) result)
+    (text : List ℕ) × (result : Result (Unit {0}) StreamFault) × (ending ≡ ending_of (λ done. Done) result)
     × MatchResult result (λ done. Written text before.gone after.gone before.failures after.failures)
     (BreaksOff text before.gone after.gone before.failures after.failures)
 
 -- what is told of a transcript, by what is asked; a page marks the first entry that isn't legal, if there is one
 abbrev pub Answers : Task → TranscriptValue → Output → Output → Ending → Type 0
 Answers Why transcript before after ending =
-    (result : Result Verdict Unwritten) × (ending ≡ ending_of of_verdict result)
+    (result : Result Verdict StreamFault) × (ending ≡ ending_of of_verdict result)
     × MatchResult result (Says transcript before.gone after.gone before.failures after.failures)
     (SaysNothing transcript before.gone after.gone before.failures after.failures)
 Answers (Listing only span) transcript before after ending =
     (ending ≡ Done) × Shows only span transcript before.gone after.gone before.failures after.failures
 Answers (Draw choice) transcript before after ending =
-    (wrong : Option Wrong) × (result : Result (Unit {0}) Unwritten) × IsExplained transcript wrong
+    (wrong : Option Wrong) × (result : Result (Unit {0}) StreamFault) × IsExplained transcript wrong
     × (ending ≡ ending_of (λ done. Done) result)
     × MatchResult result
     (λ done. Draws choice wrong transcript before.gone after.gone before.failures after.failures)
@@ -66,7 +66,7 @@ pub record ShowsBefore (chosen : Chosen) (before after : Streams) (ending : Endi
 -- the output failed, or memory ran out for it, behind the first lines of the input's text: a beginning of what shows
 -- these went out
 pub record BreaksBefore (chosen : Chosen) (before after : Streams) (ending : Ending) : Type 0 where
-  pub fault : Unwritten
+  pub fault : StreamFault
   pub breaks : BreaksAt chosen fault before after
   pub ending_is : ending ≡ of_unwritten fault
 

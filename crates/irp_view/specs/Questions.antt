@@ -13,7 +13,7 @@ use Rattle.irp_names.specs.Closures.{plan_text}
 use Rattle.irp_names.specs.Majors.{major_text}
 use Rattle.irp_names.specs.Small.{device_text, hex_text, routine_text}
 use Rattle.irp_names.specs.Statuses.{result_text, status_text}
-use Rattle.irp_judge.specs.Differences.{shown_of}
+use Rattle.irp_types.specs.Questions.{shown_of}
 use Rattle.irp_judge.specs.declared.difference.ShownField.{ShownField}
 use Rattle.irp_judge.specs.declared.difference.ShownField.TheVariants as field
 use Rattle.irp_judge.specs.declared.difference.QuestionPart.{QuestionPart}

@@ -4,9 +4,9 @@ use Rattle.irp_types.specs.declared.entry.Entry.{Entry}
 use Rattle.irp_types.specs.declared.names.IrpRef.{IrpRef}
 use Rattle.irp_transcript.specs.Transcripts.{TranscriptValue}
 use Rattle.irp_transcript.specs.declared.word_line.WordLine.{WordLine}
-use Rattle.irp_listing.specs.Bytes.{Bytes}
+use Rattle.irp_streams.specs.Streams.{Bytes}
 use Rattle.irp_listing.specs.Listing.{AreWordLines, IsListing}
-use Rattle.irp_listing.specs.Writing.{Written}
+use Rattle.irp_streams.specs.Writing.{Written}
 use Rattle.irp_view.specs.declared.orders.Span.{Span}
 
 -- the entries of a span, or all

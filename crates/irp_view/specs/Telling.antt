@@ -6,11 +6,11 @@ use Rattle.irp_transcript.specs.Transcripts.{TranscriptValue}
 use Rattle.irp_judge.specs.Checked.{IsExplained, IsVerdictOn, verdict_of}
 use Rattle.irp_judge.specs.declared.verdict.Verdict.{Verdict}
 use Rattle.irp_judge.specs.declared.verdict.Wrong.{Wrong}
-use Rattle.irp_listing.specs.Bytes.{Bytes}
+use Rattle.irp_streams.specs.Streams.{Bytes}
 use Rattle.irp_listing.specs.Lines.{line_of}
-use Rattle.irp_listing.specs.Writing.{BreaksOff, IsQuiet, Written}
-use Rattle.irp_listing.specs.declared.writing.Unwritten.{Unwritten}
-use Rattle.irp_listing.specs.declared.writing.Unwritten.TheVariants.{NoMemory}
+use Rattle.irp_streams.specs.Writing.{BreaksOff, IsQuiet, Written}
+use Rattle.irp_streams.specs.declared.reading.StreamFault.{StreamFault}
+use Rattle.irp_streams.specs.declared.reading.StreamFault.TheVariants.{NoMemory}
 use Rattle.irp_view.specs.Blocks.{IsWhy}
 use Rattle.irp_view.specs.RefusedCalls.{refused_from, refused_line}
 
@@ -62,7 +62,7 @@ Says transcript old new before after verdict =
     (text : List ℕ) × Tells transcript verdict text × Written text old new before after
 
 -- it didn't: a beginning of it went out, before this fault; or nothing was told, for want of memory
-abbrev pub SaysNothing : TranscriptValue → Bytes → Bytes → ℕ → ℕ → Unwritten → Type 0
+abbrev pub SaysNothing : TranscriptValue → Bytes → Bytes → ℕ → ℕ → StreamFault → Type 0
 SaysNothing transcript old new before after fault =
     ((verdict : Verdict) × (text : List ℕ) × Tells transcript verdict text
     × BreaksOff text old new before after fault)

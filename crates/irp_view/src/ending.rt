@@ -7,8 +7,8 @@ use crate::listing::Unshown;
 use crate::reading::Unread;
 use crate::refusal::Expected;
 use irp_judge::Verdict;
-use irp_listing::Unwritten;
 use irp_program::{NoOpen, Unasked, Unopened};
+use irp_streams::StreamFault;
 use std::fmt;
 
 /// How the program ends: its exit status, and the line for standard error (this project's own command line).
@@ -131,13 +131,13 @@ impl From<Unshown> for Ending {
     }
 }
 
-impl From<Unwritten> for Ending {
+impl From<StreamFault> for Ending {
     ghost from_gives = { λ given ending. ending ≡ of_unwritten given };
 
-    fn from(given: Unwritten) -> Ending {
+    fn from(given: StreamFault) -> Ending {
         match given {
-            Unwritten::Failed => Ending::Failed,
-            Unwritten::NoMemory => Ending::NoMemory,
+            StreamFault::Failed => Ending::Failed,
+            StreamFault::NoMemory => Ending::NoMemory,
         }
     }
 }

@@ -3,7 +3,7 @@
 ghost use Rattle.std.specs.Prelude.{◌≡◌, ◌+◌, ◌++◌, OnOk};
 ghost use Rattle.std.specs.Fmt.{decimal};
 ghost use Rattle.irp_names.specs.Small.{hex_text};
-ghost use Rattle.irp_judge.specs.Differences.{place_of, shown_of};
+ghost use Rattle.irp_judge.specs.Differences.{place_of};
 ghost use Rattle.irp_view.specs.Parts.{field_name};
 ghost use Rattle.irp_view.specs.Questions.{bool_text, device_shown, field_text};
 
@@ -108,17 +108,6 @@ pub fn bool_text(value: bool) -> &'static str
     ensures { result.now ≡ bool_text value }
 {
     if value { "true" } else { "false" }
-}
-
-/// What a question showed.
-pub fn shown_of(question: Asked) -> Shown
-    ensures { result ≡ shown_of question }
-{
-    match question {
-        Asked::Dispatch { shown, .. } => shown,
-        Asked::Completion { shown, .. } => shown,
-        Asked::Cancel { shown, .. } => shown,
-    }
 }
 
 /// What a dispatch is shown in a field.

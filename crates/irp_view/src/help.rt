@@ -4,8 +4,7 @@ ghost use Rattle.irp_view.specs.Program.{Helped};
 ghost use Rattle.irp_view.specs.Streams.{output_of};
 
 use crate::ending::Ending;
-use irp_listing::send;
-use irp_streams::Out;
+use irp_streams::{Out, send};
 
 /// What the help says.
 const HELP: &str = "\

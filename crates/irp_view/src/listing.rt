@@ -13,8 +13,8 @@ use crate::refusal::Before;
 use crate::showing::{Shown, Wanted};
 use irp_fast_reader::{Line, Reader};
 use irp_feed::{BLOCK, LineSink, Start, Unfed, feed_rest, read_header};
-use irp_listing::{Choice, Unwritten, send};
-use irp_streams::Out;
+use irp_listing::Choice;
+use irp_streams::{Out, StreamFault, send};
 use irp_transcript::Header;
 use irp_types::IrpRef;
 use std::alloc::{AllocError, Global};
@@ -26,7 +26,7 @@ pub enum Unshown {
     /// The input holds no transcript.
     Unread(Unread),
     /// What shows it wasn't written.
-    Unwritten(Unwritten),
+    Unwritten(StreamFault),
 }
 
 /// Takes the lines of a transcript, gathers what stands for those that are wanted, and sends that at the end of a block.
@@ -37,7 +37,7 @@ pub struct Gathering {
     /// What is gathered of it.
     shown: Shown,
     /// Why that wasn't sent, if it wasn't.
-    fault: Option<Unwritten>,
+    fault: Option<StreamFault>,
 }
 
 impl<O: Out> LineSink<O> for Gathering {

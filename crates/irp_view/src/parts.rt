@@ -5,9 +5,7 @@ ghost use Rattle.irp_view.specs.Parts.{answer_part, lock_text, part_text, refusa
 ghost use Rattle.irp_view.specs.Questions.{answer_lead, nobody_text, question_value, told_of, who_text};
 
 use crate::answers::put_answer;
-use crate::fields::{
-    bool_text, field_name, field_place, put_field, put_number, put_numbered, shown_of,
-};
+use crate::fields::{bool_text, field_name, field_place, put_field, put_number, put_numbered};
 use irp_judge::{Difference, QuestionPart};
 use irp_names::{DeviceWords, ReplyWords, RoutineWords};
 use irp_types::{Asked, Call, Entry, LockNo, Reply};
@@ -169,7 +167,7 @@ fn put_told(
     ensures { OnOk result (words.new.bytes.items ≡ words.old.bytes.items ++ told_of part is_made question) }
 {
     match part {
-        QuestionPart::Shown(field) => put_field(words, field, shown_of(question)),
+        QuestionPart::Shown(field) => put_field(words, field, question.shown()),
         QuestionPart::Answer => {
             words.push_str(answer_lead(is_made))?;
             put_answer(words, question)

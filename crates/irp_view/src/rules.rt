@@ -7,7 +7,7 @@ use crate::answers::broken_rule;
 use crate::fields::put_field_rule;
 use crate::sections::Section;
 use irp_judge::{Difference, QuestionPart, Wrong};
-use irp_names::{act_of, caller_of, refusal_name};
+use irp_names::{act_of, refusal_name};
 use irp_transcript::Header;
 use irp_types::{Asked, Call, CancelAnswer, Entry, Plan, Reply};
 use std::alloc::AllocError;
@@ -24,7 +24,7 @@ type Rule = (&'static str, Section);
 
 /// The checks of a call that names a party come first.
 fn party_checks(call: Call) -> &'static str {
-    match caller_of(call) {
+    match call.party() {
         Some(_) => "NoIrp, Stale, Ended, NotOwner, SlotHeld, ",
         None => "",
     }

@@ -12,8 +12,8 @@ use crate::block::put_why;
 use crate::judging::{Found, Judged};
 use crate::refused_calls::{RefusedCalls, put_refused};
 use irp_judge::{Verdict, Wrong};
-use irp_listing::{Unwritten, put_line, send};
-use irp_streams::Out;
+use irp_listing::put_line;
+use irp_streams::{Out, StreamFault, send};
 use irp_transcript::Header;
 use std::alloc::{AllocError, Global};
 
@@ -123,7 +123,7 @@ fn verdict_of(found: &Found) -> Verdict
 /// `Failed` where the output failed, and exactly then its count of failures rose: a beginning of the text went out.
 /// `NoMemory` where memory ran out, before anything goes out.
 #[tactic(auto, using(crate::proofs::Said::tells, crate::proofs::Said::quiet))]
-pub fn why<O: Out>(alloc: Global, output: &mut O, judged: &Judged) -> Result<Verdict, Unwritten>
+pub fn why<O: Out>(alloc: Global, output: &mut O, judged: &Judged) -> Result<Verdict, StreamFault>
     ensures ok { (transcript : TranscriptValue) → IsFound transcript judged.now.found
         → IfOk result (Says transcript (O.gone output.old) (O.gone output.new)
         (O.failures output.old) (O.failures output.new)) }

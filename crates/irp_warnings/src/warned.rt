@@ -138,7 +138,7 @@ fn warning_of(
     let mut found = Finding::new(alloc, whole.text);
     tell(&mut found, node_of(whole, section, index, concern), concern);
     let place = found.place();
-    let words = found.ended()?;
+    let words = found.finish()?;
     Ok(Warning {
         section,
         index,

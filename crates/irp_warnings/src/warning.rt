@@ -1,9 +1,9 @@
 //! Warnings. A file of its own, since definitions that clauses cite name these.
 
+use irp_names::Sink;
 use irp_script_reader::Section;
-use irp_text_faults::{Piece, Place, put, put_place, put_section};
+use irp_text_faults::{Place, put_place, put_section};
 use irp_types::{DeviceId, DispatchId, LockNo, Rule};
-use std::alloc::AllocError;
 
 /// What isn't meant in a step.
 #[derive(Clone, Copy)]
@@ -44,22 +44,20 @@ pub struct Warning {
     /// What isn't meant.
     pub(crate) concern: Concern,
     /// That in words.
-    pub(crate) words: Vec<u8>,
+    pub(crate) words: String,
 }
 
 impl Warning {
-    /// Puts the message behind what the buffer holds, in one line without a newline, which begins with `warning: `. The
-    /// one error is want of memory.
-    pub fn write(&self, out: &mut Vec<u8>) -> Result<(), AllocError> {
-        self.write_at(out, self.place)
+    /// Puts the message, in one line without a newline, which begins with `warning: `.
+    pub fn write(&self, out: &mut Sink) {
+        self.write_at(out, self.place);
     }
 
-    /// The same, with another place: that of the step in the text from which the JSON was made. The one error is want of
-    /// memory.
-    pub fn write_at(&self, out: &mut Vec<u8>, place: Place) -> Result<(), AllocError> {
-        put(out, &[Piece::Say("warning: ")])?;
-        put_section(out, self.section, self.index)?;
-        put_place(out, place)?;
-        out.extend_from_slice(self.words.as_slice())
+    /// The same, with another place: that of the step in the text from which the JSON was made.
+    pub fn write_at(&self, out: &mut Sink, place: Place) {
+        out.put("warning: ");
+        put_section(out, self.section, self.index);
+        put_place(out, place);
+        out.put(self.words.as_str());
     }
 }

@@ -6,6 +6,7 @@ ghost use Rattle.irp_words.specs.Telling.{Fails, Prints};
 
 use crate::ending::Ending;
 use irp_grammar::{Said, Told, Untold, fault_lines, json, read_lines, words};
+use irp_names::Sink;
 use irp_script_reader::{ScriptFault, read_script};
 use irp_streams::{Out, put_all};
 use irp_text_faults::{FaultMessage, Place, faults};
@@ -100,21 +101,21 @@ fn is_json(text: &[u8]) -> bool {
 }
 
 /// Appends a line for each fault, and tells whether there is one.
-fn put_fault_lines(lines: &mut Vec<u8>, faults: &[FaultMessage]) -> Result<bool, AllocError> {
+fn put_fault_lines(lines: &mut Sink, faults: &[FaultMessage]) -> bool {
     for fault in faults {
-        fault.write(lines)?;
-        lines.push(b'\n')?;
+        fault.write(lines);
+        lines.put("\n");
     }
-    Ok(!faults.is_empty())
+    !faults.is_empty()
 }
 
 /// Appends a line for each warning, and tells whether there is one.
-fn put_warning_lines(lines: &mut Vec<u8>, warnings: &[Warning]) -> Result<bool, AllocError> {
+fn put_warning_lines(lines: &mut Sink, warnings: &[Warning]) -> bool {
     for warning in warnings {
-        warning.write(lines)?;
-        lines.push(b'\n')?;
+        warning.write(lines);
+        lines.put("\n");
     }
-    Ok(!warnings.is_empty())
+    !warnings.is_empty()
 }
 
 /// `Warned` where there is a warning, else `Done`.
@@ -127,19 +128,18 @@ fn warned_or_done(is_warned: bool) -> Ending {
 }
 
 /// Appends what is hardly meant in a script of JSON, and gives the ending: `Warned` where there is such.
-fn put_warnings(alloc: Global, lines: &mut Vec<u8>, text: &[u8]) -> Result<Ending, AllocError> {
+fn put_warnings(alloc: Global, lines: &mut Sink, text: &[u8]) -> Result<Ending, AllocError> {
     let Ok(script) = read_script(alloc, text) else {
         return Err(AllocError);
     };
     let warnings = warnings(alloc, text, &script)?;
-    let is_warned = put_warning_lines(lines, warnings.as_slice())?;
-    Ok(warned_or_done(is_warned))
+    Ok(warned_or_done(put_warning_lines(lines, warnings.as_slice())))
 }
 
 /// Appends what is wrong with a script of JSON, or else what is hardly meant, and gives the ending.
-fn put_advice(alloc: Global, lines: &mut Vec<u8>, text: &[u8]) -> Result<Ending, AllocError> {
+fn put_advice(alloc: Global, lines: &mut Sink, text: &[u8]) -> Result<Ending, AllocError> {
     let faults = faults(alloc, text)?;
-    if put_fault_lines(lines, faults.as_slice())? {
+    if put_fault_lines(lines, faults.as_slice()) {
         Ok(Ending::Faulty)
     } else {
         put_warnings(alloc, lines, text)
@@ -158,34 +158,34 @@ fn place_in_words(said: &Said<'_>, warning: &Warning) -> Place {
 /// is such.
 fn put_words_warnings(
     alloc: Global,
-    lines: &mut Vec<u8>,
+    lines: &mut Sink,
     said: &Said<'_>,
     told: &Told,
 ) -> Result<Ending, AllocError> {
     let warnings = warnings(alloc, told.text.as_bytes(), &told.script)?;
     for warning in warnings.as_slice() {
-        warning.write_at(lines, place_in_words(said, warning))?;
-        lines.push(b'\n')?;
+        warning.write_at(lines, place_in_words(said, warning));
+        lines.put("\n");
     }
     Ok(warned_or_done(!warnings.is_empty()))
 }
 
 /// Puts out the lines that were made, and gives the ending; want of memory where that kept them from being made.
-fn put_lines<O: Out>(output: &mut O, lines: &[u8], ending: Result<Ending, AllocError>) -> Ending {
-    match ending {
-        Ok(ending) => match put_all(output, lines) {
+fn put_lines<O: Out>(output: &mut O, lines: Sink, ending: Result<Ending, AllocError>) -> Ending {
+    match (ending, lines.finish()) {
+        (Ok(ending), Ok(lines)) => match put_all(output, lines.as_bytes()) {
             Ok(()) => ending,
             Err(_) => Ending::Failed,
         },
-        Err(_) => Ending::NoMemory,
+        _ => Ending::NoMemory,
     }
 }
 
 /// Tells what is wrong with a script of JSON, or else what is hardly meant.
 fn tell_json_advice<O: Out>(alloc: Global, output: &mut O, text: &[u8]) -> Ending {
-    let mut lines = Vec::new(alloc);
+    let mut lines = Sink::new(alloc);
     let ending = put_advice(alloc, &mut lines, text);
-    put_lines(output, lines.as_slice(), ending)
+    put_lines(output, lines, ending)
 }
 
 /// Tells what is wrong with a script in words, or else what is hardly meant.
@@ -195,9 +195,9 @@ fn tell_words_advice<O: Out>(alloc: Global, output: &mut O, text: &[u8]) -> Endi
     };
     match json(alloc, &said) {
         Ok(told) => {
-            let mut lines = Vec::new(alloc);
+            let mut lines = Sink::new(alloc);
             let ending = put_words_warnings(alloc, &mut lines, &said, &told);
-            put_lines(output, lines.as_slice(), ending)
+            put_lines(output, lines, ending)
         }
         Err(untold) => tell_untold(alloc, output, untold),
     }

@@ -1,8 +1,10 @@
-//! Words that grow piece by piece, where their length is asked before they are drawn.
+//! Words that grow piece by piece.
 
-ghost use Rattle.std.specs.Prelude.{◌≡◌, [], IfErr, IfOk, None, Some, decimal};
-ghost use Rattle.irp_page.specs.Sinks.{Says};
+ghost use Rattle.std.specs.Prelude.{◌≡◌, ℕ, List, [], IfErr, IfOk, IfSome, None, Some, decimal};
+ghost use Rattle.irp_names.specs.Small.{hex_text};
+ghost use Rattle.irp_names.specs.Sinks.{Says, emptied, in_marks};
 
+use crate::small::Hex;
 use std::alloc::{AllocError, Global};
 use std::fmt;
 use std::marker::Model;
@@ -23,12 +25,6 @@ impl Model for Sink {
     ghost Value = { Option (List ℕ) };
 
     ghost view = { λ sink. if sink.ran_out then None else Some sink.words.bytes.items };
-}
-
-/// What can be said in words.
-pub trait InWords: Drop {
-    /// Puts the words.
-    fn put(self, out: &mut Sink);
 }
 
 impl Sink {
@@ -59,11 +55,50 @@ impl Sink {
         self.put(buffer.format(number));
     }
 
+    /// Puts a number as `0x10`.
+    pub fn hexadecimal(&mut self, number: u64)
+        ensures { Says (hex_text number) self.old self.new }
+    {
+        self.show(Hex(number));
+    }
+
     /// Puts what is displayed.
-    pub fn show<D: fmt::Display + Drop>(&mut self, shown: D) {
+    pub fn show<D: fmt::Display + Drop>(&mut self, shown: D)
+        ensures { IfSome (D.output shown) (λ words. Says words self.old self.new) }
+    {
         if !self.ran_out && self.words.write_fmt(shown).is_err() {
             self.ran_out = true;
         }
+    }
+
+    /// Puts words in quotation marks.
+    pub fn quoted(&mut self, words: &str)
+        ensures { Says (in_marks words.now) self.old self.new }
+    {
+        self.put("\"");
+        self.put(words);
+        self.put("\"");
+    }
+
+    /// The words so far; what stood there before, where memory ran out.
+    pub fn words(&self) -> &str
+        ensures { (words : List ℕ) → self.now ≡ Some words → result.now ≡ words }
+    {
+        self.words.as_str()
+    }
+
+    /// Takes the words away. That memory ran out is remembered.
+    pub fn clear(&mut self)
+        ensures { self.new ≡ emptied self.old }
+    {
+        self.words.clear();
+    }
+
+    /// Remembers that memory ran out elsewhere.
+    pub fn run_out(&mut self)
+        ensures { self.new ≡ None }
+    {
+        self.ran_out = true;
     }
 
     /// The words. The one error is that memory ran out.
