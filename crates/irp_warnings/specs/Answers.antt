@@ -10,14 +10,14 @@ use Rattle.irp_script_reader.specs.declared.condition.ExpectedAnswer.TheVariants
 
 -- a lock or a slot may answer so
 abbrev pub may_say : AnswerWord → StepAct → Bool
-may_say word.Yes (OnLock (lock.Drained no)) = true
-may_say word.Busy (OnLock (lock.Drained no)) = true
-may_say word.SeatFull (OnLock (lock.Acquire no tag)) = true
+may_say word.Yes (OnLock (lock.Drained id)) = true
+may_say word.Busy (OnLock (lock.Drained id)) = true
+may_say word.SeatFull (OnLock (lock.Acquire id tag)) = true
 may_say word.SeatFull (Hand hand) = true
-may_say word.NotHeld (OnLock (lock.Release no tag)) = true
-may_say word.NotHeld (OnLock (lock.BeginRemove no tag)) = true
+may_say word.NotHeld (OnLock (lock.Release id tag)) = true
+may_say word.NotHeld (OnLock (lock.BeginRemove id tag)) = true
 may_say word.NotHeld (Hand hand) = true
-may_say word.AlreadyRemoving (OnLock (lock.BeginRemove no tag)) = true
+may_say word.AlreadyRemoving (OnLock (lock.BeginRemove id tag)) = true
 may_say word.NoLock (OnLock on) = true
 may_say word.NoLock (Hand hand) = true
 may_say word.Standing (Publish slot irp) = true
@@ -42,19 +42,19 @@ is_call act = false
 -- the answer may be a status
 abbrev pub answers_status : StepAct → Bool
 answers_status (Call (call.CallDriver party irp target)) = true
-answers_status (OnLock (lock.Acquire no tag)) = true
+answers_status (OnLock (lock.Acquire id tag)) = true
 answers_status act = false
 
 -- the answer may be the plain word that it was done
 abbrev pub answers_done : StepAct → Bool
-answers_done (Call (call.CreateDevice driver no)) = false
+answers_done (Call (call.CreateDevice driver id)) = false
 answers_done (Call (call.CallDriver party irp target)) = false
 answers_done (Call (call.SetCancelRoutine party irp cancel)) = false
 answers_done (Call (call.Cancel irp)) = false
 answers_done (Call (call.Look irp)) = false
 answers_done (Allocate size label) = false
-answers_done (OnLock (lock.Acquire no tag)) = false
-answers_done (OnLock (lock.Drained no)) = false
+answers_done (OnLock (lock.Acquire id tag)) = false
+answers_done (OnLock (lock.Drained id)) = false
 answers_done (Publish slot irp) = false
 answers_done (Withdraw slot) = false
 answers_done (Request slot) = false

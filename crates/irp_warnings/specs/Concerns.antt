@@ -2,12 +2,10 @@
 use Rattle.std.specs.Prelude.{ℕ, ◌==◌, ◌&&◌, Bool, true, false, not, if◌then◌else◌, nat_le, nat_lt, List, [], ◌∷◌, length, slice_get, Option, Some, None}
 use Rattle.std.specs.List.{list_any}
 use Rattle.std.specs.Bool.{then_some}
-use Rattle.std.specs.Option.{option_and_then, option_map, option_or}
+use Rattle.std.specs.Option.{option_and_then, option_map, option_map_or, option_or}
 use Rattle.irp_types.specs.declared.{asked.Asked.Asked, entry.Entry.Entry, names.CancelId.CancelId, names.DeviceId.DeviceId}
 use Rattle.irp_types.specs.declared.{names.DispatchId.DispatchId, names.IrpRef.IrpRef, names.LockNo.LockNo}
 use Rattle.irp_types.specs.declared.{reply.Reply.Reply, routine.Known.Known, routine.Setting.Setting, shown.Shown.Shown}
-use Rattle.irp_types.specs.declared.answer.Plan.TheVariants.{Skip, Forward, ForwardPend}
-use Rattle.irp_types.specs.declared.answer.Plan.{Plan}
 use Rattle.irp_types.specs.declared.asked.Asked.TheVariants.{Dispatch}
 use Rattle.irp_types.specs.declared.call.Party.TheVariants.{Originator}
 use Rattle.irp_types.specs.declared.call.Call.TheVariants as call
@@ -15,6 +13,7 @@ use Rattle.irp_types.specs.declared.refusal.Refusal.TheVariants.{StillAttached}
 use Rattle.irp_types.specs.declared.reply.Reply.TheVariants.{Refused, Status}
 use Rattle.irp_types.specs.declared.seat_act.LockAct.TheVariants.{Release, BeginRemove}
 use Rattle.irp_types.specs.declared.call.Call.{Call as CallOf}
+use Rattle.irp_types.specs.Descent.{is_passing}
 use Rattle.irp_types.specs.Packet.{size_of}
 use Rattle.irp_types.specs.Rules.{count_of_rule}
 use Rattle.irp_types.specs.Stacks.{DevicesValue, stack_size_of}
@@ -110,17 +109,10 @@ too_short standing act target =
     option_and_then (too_short_by standing.manager.state.devices (packet_of standing.labels act) target)
     (live_at standing.manager.state (packet_of standing.labels act).slot)
 
--- the plan passes the packet down
-abbrev pub passes_down : Option Plan → Bool
-passes_down (Some Skip) = true
-passes_down (Some (Forward set)) = true
-passes_down (Some (ForwardPend set)) = true
-passes_down other = false
-
 -- a dispatch passed the packet down, as it was asked, and no device is below
 abbrev pub passed_down : ScriptParts → Asked → Option Concern
 passed_down script (Dispatch id shown plan) =
-    if not shown.has_lower && passes_down (slice_get script.dispatches id.0) then
+    if not shown.has_lower && option_map_or is_passing (slice_get script.dispatches id.0) false then
     option_map (λ device. NoLower device id shown.major) shown.device else None
 passed_down script other = None
 

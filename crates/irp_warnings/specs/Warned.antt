@@ -1,7 +1,6 @@
 -- What is warned of a script, by a run of it in the order of its text.
-use Rattle.std.specs.Prelude.{ℕ, ◌≡◌, ◌+◌, ◌<◌, List, [], ◌∷◌, ◌++◌, length, map, take, slice_get, Option, Some, None}
-use Rattle.std.specs.List.{All, AllPairs}
-use Rattle.std.specs.Option.{option_map_or}
+use Rattle.std.specs.Prelude.{ℕ, ◌≡◌, ◌+◌, ◌<◌, ◌≤◌, if◌then◌else◌, nat_lt, List, [], ◌∷◌, ◌++◌, length, map, take, slice_get, All, Option, Some, None}
+use Rattle.std.specs.List.{AllPairs}
 use Rattle.irp_transcript.specs.declared.header.Header.{Header}
 use Rattle.irp_script_reader.specs.declared.act.Step.{Step}
 use Rattle.irp_script_reader.specs.declared.refusal.Section.{Section}
@@ -95,33 +94,57 @@ abbrev pub hinted : Section → ℕ → Option Concern → List Hint
 hinted section index None = []
 hinted section index (Some concern) = record { section = section; index = index; concern = concern } ∷ []
 
--- what isn't meant in a step that was made behind those, of which this is told
+-- what isn't meant in a step that was made behind those of which this is told
 abbrev pub hints_in : ScriptParts → MadeStep → List Hint → List Hint
 hints_in script one told = hinted one.section one.index (concern_of script one.run told one.step one.answer)
 
--- what isn't meant in steps that were made, in their order: the earliest comes first
+-- what isn't meant in steps that were made, in the order of the text
 abbrev pub hints : ScriptParts → List MadeStep → List Hint
 hints script [] = []
 hints script (one ∷ earlier) = hints script earlier ++ hints_in script one (hints script earlier)
 
--- the warnings are the first 100 of what isn't meant in the steps, as the script is run in the order of its text
+-- the warnings tell the first 100 of what isn't meant in the steps that were made
+abbrev pub AreFirst : ScriptParts → List MadeStep → List Warning → Type 0
+AreFirst script course found = hints_of found ≡ take 100 (hints script course)
+
+-- The warnings of a script tell what isn't meant in its steps, as it is run in the order of its text, each once, in that
+-- order; but no more than the first 100.
 abbrev pub AreWarnings : ScriptParts → List Warning → Type 0
-AreWarnings script found = (course : List MadeStep) × IsCourse script course × (hints_of found ≡ take 100 (hints script course))
+AreWarnings script found = (course : List MadeStep) × IsCourse script course × AreFirst script course found
+
+-- more is told, where there is room
+abbrev pub with_hints : List Hint → List Hint → List Hint
+with_hints more told = if nat_lt (length told) 100 then told ++ more else told
+
+-- so many steps of a list were made, and what isn't meant in them is told behind the warnings of those before
+abbrev pub Goes : ScriptParts → Section → RunValue → List Warning → ℕ → RunValue → List Warning → Type 0
+Goes script section start old count run new =
+    (earlier : List MadeStep) → AreFirst script earlier old
+    → (made : List MadeStep) × AreMade script section start made run × (length made ≡ count)
+    × AreFirst script (made ++ earlier) new
 
 -- ---- where they stand
 
--- a step's place in the text: the setup stands before the steps
+-- the steps of the lists before
+abbrev pub steps_before : ScriptParts → Section → List Step
+steps_before script Steps = script.setup
+steps_before script other = []
+
+-- a step's place in the text, where the setup stands before the steps
 abbrev pub place_in : ScriptParts → Section → ℕ → ℕ
-place_in script Setup index = index
-place_in script other index = length script.setup + index
+place_in script section index = length (steps_before script section) + index
 
-abbrev pub place_of : ScriptParts → Warning → ℕ
-place_of script warning = place_in script warning.section warning.index
+abbrev pub place_of : ScriptParts → Hint → ℕ
+place_of script hint = place_in script hint.section hint.index
 
--- a warning names a step that is there
-abbrev pub IsThere : ScriptParts → Warning → Type 0
-IsThere script warning = warning.index < length (steps_in script warning.section)
+-- what is told names a step that is there, before this place
+pub record IsThere (script : ScriptParts) (limit : ℕ) (hint : Hint) : Type 0 where
+  pub within : hint.index < length (steps_in script hint.section)
+  pub before : place_of script hint < limit
 
--- warnings stand in the order of the text
-abbrev pub AreInOrder : ScriptParts → List Warning → Type 0
-AreInOrder script found = AllPairs (λ one later. place_of script one < place_of script later) found
+-- There are 100 warnings at most. Each names a step that is there, before this place, and they stand in the order of the
+-- text: no two at one step.
+pub record AreInOrder (script : ScriptParts) (limit : ℕ) (found : List Warning) : Type 0 where
+  pub few : length found ≤ 100
+  pub there : All (IsThere script limit) (hints_of found)
+  pub order : AllPairs (λ one later. place_of script one < place_of script later) (hints_of found)

@@ -1,5 +1,12 @@
 //! What isn't meant in the steps of a script, by what they are answered as they are made in the order of the text.
 
+ghost use Rattle.std.specs.Prelude.{◌≡◌, IfOk, slice_get};
+ghost use Rattle.std.specs.Option.{option_map_or};
+ghost use Rattle.irp_types.specs.Descent.{is_passing};
+ghost use Rattle.irp_script_reader.specs.Sound.{known_of};
+ghost use Rattle.irp_warnings.specs.Concerns as spec;
+ghost use Rattle.irp_warnings.specs.Warned.{IsMade, answer_behind, hints_of};
+
 use crate::conditions::may_be_answered;
 use crate::warning::{Concern, Warning};
 use irp_machine::{After, Answered, Run, Standing};
@@ -7,7 +14,7 @@ use irp_script_reader::{Condition, Named, ScriptParts, Step, StepAct};
 use irp_steps::{label_at, named_by, packet_of};
 use irp_transcript::WordReply;
 use irp_types::{
-    Asked, Call, CancelId, DeviceId, Hand, Known, LockAct, Party, Plan, Refusal, Reply, Setting,
+    Asked, Call, CancelId, DeviceId, DispatchId, Hand, Known, LockAct, Party, Plan, Refusal, Reply, Setting,
 };
 use std::alloc::AllocError;
 
@@ -15,7 +22,9 @@ use std::alloc::AllocError;
 const MOST_ATOMIC: u32 = 8;
 
 /// What an act was answered, where it was answered this before.
-fn answer_behind(behind: After, answer: Option<Answered>) -> Option<Answered> {
+fn answer_behind(behind: After, answer: Option<Answered>) -> Option<Answered>
+    ensures { result ≡ answer_behind behind answer }
+{
     match behind {
         After::Told(given) | After::Binds(given, _) => Some(given),
         After::In(_) | After::Bound => answer,
@@ -31,7 +40,9 @@ pub fn answer_of<'a>(
     start: Run<'a>,
     place: usize,
     seat: u32,
-) -> Result<(Run<'a>, Option<Answered>), AllocError> {
+) -> Result<(Run<'a>, Option<Answered>), AllocError>
+    ensures { IfOk result (λ made. IsMade start.entry seat place made.1 made.0) }
+{
     let (mut run, mut answer) = (start, None);
     for _part in 0..MOST_ATOMIC {
         let (next, behind) = run.play(seat, place)?;
@@ -45,13 +56,17 @@ pub fn answer_of<'a>(
 }
 
 /// Whether a warning tells of a label that isn't bound.
-fn is_told(told: &[Warning], label: usize) -> bool {
+fn is_told(told: &[Warning], label: usize) -> bool
+    ensures { result ≡ spec.is_told (hints_of told.now) label }
+{
     told.iter()
         .any(|warning| matches!(warning.concern, Concern::Unbound { label: one } if one == label))
 }
 
 /// The label that an act names, where it isn't bound, and no warning tells of it: its packet's use would have number 0.
-fn unbound_in(standing: &Standing, told: &[Warning], act: StepAct) -> Option<usize> {
+fn unbound_in(standing: &Standing, told: &[Warning], act: StepAct) -> Option<usize>
+    ensures { result ≡ spec.unbound_in standing.now (hints_of told.now) act }
+{
     let Some(Named::Label(label)) = named_by(act) else {
         return None;
     };
@@ -67,7 +82,10 @@ fn of_answer(
     told: &[Warning],
     step: &Step,
     answer: Answered,
-) -> Option<Concern> {
+) -> Option<Concern>
+    requires { known ≡ known_of script.now }
+    ensures { result ≡ spec.of_answer script.now run.now (hints_of told.now) step.now answer }
+{
     if let Some(label) = unbound_in(run.standing(), told, step.act) {
         return Some(Concern::Unbound { label });
     }
@@ -86,7 +104,10 @@ pub fn concern_of(
     told: &[Warning],
     step: &Step,
     answer: Option<Answered>,
-) -> Option<Concern> {
+) -> Option<Concern>
+    requires { known ≡ known_of script.now }
+    ensures { result ≡ spec.concern_of script.now run.now (hints_of told.now) step.now answer }
+{
     match (never_answered(script, step.condition), answer) {
         (None, Some(answer)) => of_answer(run, script, known, told, step, answer),
         (never, _) => never,
@@ -94,14 +115,18 @@ pub fn concern_of(
 }
 
 /// The step that a condition names is never answered so.
-fn never_answered(script: &ScriptParts, condition: Option<Condition>) -> Option<Concern> {
+fn never_answered(script: &ScriptParts, condition: Option<Condition>) -> Option<Concern>
+    ensures { result ≡ spec.never_answered script.now condition }
+{
     let Condition { step, answer, .. } = condition?;
     let named = script.steps.as_slice().get(step as usize)?;
     (!may_be_answered(named.act, answer)).then_some(Concern::NeverAnswered { step })
 }
 
 /// A seat gave back what it doesn't hold.
-fn not_held(act: StepAct, seat: u32, reply: WordReply) -> Option<Concern> {
+fn not_held(act: StepAct, seat: u32, reply: WordReply) -> Option<Concern>
+    ensures { result ≡ spec.not_held act seat reply }
+{
     match (act, reply) {
         (
             StepAct::OnLock(LockAct::Release { lock, .. } | LockAct::BeginRemove { lock, .. })
@@ -119,7 +144,10 @@ fn of_call(
     known: Known,
     call: Call<Named, u32>,
     reply: Reply,
-) -> Option<Concern> {
+) -> Option<Concern>
+    requires { known ≡ known_of script.now }
+    ensures { result ≡ spec.of_call script.now run.now call reply }
+{
     match (call, reply) {
         (Call::SetRoutine { setting, .. }, _) => no_routine(known, setting),
         (
@@ -146,7 +174,9 @@ fn of_call(
 }
 
 /// A routine that isn't there.
-fn no_routine(known: Known, setting: Setting) -> Option<Concern> {
+fn no_routine(known: Known, setting: Setting) -> Option<Concern>
+    ensures { result ≡ spec.no_routine known setting }
+{
     let (rule, number) = (setting.routine.rule, setting.routine.no);
     let count = known.count_of(rule);
     (number >= count).then_some(Concern::NoRoutine {
@@ -157,7 +187,9 @@ fn no_routine(known: Known, setting: Setting) -> Option<Concern> {
 }
 
 /// A cancel routine that isn't there.
-fn no_cancel(known: Known, cancel: CancelId) -> Option<Concern> {
+fn no_cancel(known: Known, cancel: CancelId) -> Option<Concern>
+    ensures { result ≡ spec.no_cancel known cancel }
+{
     let (number, count) = (cancel.0, known.cancel);
     (number >= count).then_some(Concern::NoRoutine {
         rule: None,
@@ -167,7 +199,9 @@ fn no_cancel(known: Known, cancel: CancelId) -> Option<Concern> {
 }
 
 /// A packet has fewer locations than the stack of a device has devices up to it.
-fn too_short(standing: &Standing, act: StepAct, target: DeviceId) -> Option<Concern> {
+fn too_short(standing: &Standing, act: StepAct, target: DeviceId) -> Option<Concern>
+    ensures { result ≡ spec.too_short standing.now act target }
+{
     let irp = packet_of(standing.labels(), act);
     let live = standing.manager().live(irp.slot)?;
     let stacks = standing.manager().stacks();
@@ -179,7 +213,9 @@ fn too_short(standing: &Standing, act: StepAct, target: DeviceId) -> Option<Conc
 }
 
 /// Whether a dispatch's plan passes the packet down.
-fn passes_down(script: &ScriptParts, dispatch: irp_types::DispatchId) -> bool {
+fn passes_down(script: &ScriptParts, dispatch: DispatchId) -> bool
+    ensures { result ≡ option_map_or is_passing (slice_get script.now.dispatches dispatch.0) false }
+{
     matches!(
         script.dispatches.as_slice().get(dispatch.0 as usize),
         Some(Plan::Skip | Plan::Forward { .. } | Plan::ForwardPend { .. })
@@ -187,7 +223,9 @@ fn passes_down(script: &ScriptParts, dispatch: irp_types::DispatchId) -> bool {
 }
 
 /// A dispatch passes the packet down, as it was asked, where no device is below.
-fn passed_down(script: &ScriptParts, asked: Asked) -> Option<Concern> {
+fn passed_down(script: &ScriptParts, asked: Asked) -> Option<Concern>
+    ensures { result ≡ spec.passed_down script.now asked }
+{
     match asked {
         Asked::Dispatch { id, shown, .. } if !shown.has_lower && passes_down(script, id) => {
             Some(Concern::NoLower {
@@ -201,7 +239,9 @@ fn passed_down(script: &ScriptParts, asked: Asked) -> Option<Concern> {
 }
 
 /// Of the dispatches that were asked the first that passes the packet down where no device is below.
-fn no_lower(script: &ScriptParts, asked: &[Asked]) -> Option<Concern> {
+fn no_lower(script: &ScriptParts, asked: &[Asked]) -> Option<Concern>
+    ensures { result ≡ spec.no_lower script.now asked.now }
+{
     for one in asked {
         let concern = passed_down(script, *one);
         if concern.is_some() {

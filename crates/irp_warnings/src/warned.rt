@@ -1,6 +1,11 @@
 //! What of a script that is taken is hardly meant: calls that the manager will refuse, or that go another way than they
 //! look. Steps are followed in the order of the text. Source: this project's own rule.
 
+ghost use Rattle.std.specs.Prelude.{◌≡◌, ◌+◌, IfOk, OnOk, length};
+ghost use Rattle.irp_script_reader.specs.Sound.{known_of};
+ghost use Rattle.irp_warnings.specs.Warned as spec;
+ghost use Rattle.irp_warnings.specs.Warned.{AreInOrder, AreWarnings, Goes, hinted, hints_of, place_in, with_hints};
+
 use crate::made::{answer_of, concern_of};
 use crate::warning::{Concern, Warning};
 use Piece::{Number, Say, Show};
@@ -134,7 +139,10 @@ fn warning_of(
     section: Section,
     index: usize,
     concern: Concern,
-) -> Result<Warning, AllocError> {
+) -> Result<Warning, AllocError>
+    ensures { IfOk result (λ warning. (warning.section ≡ section) × (warning.index ≡ index)
+        × (warning.concern ≡ concern)) }
+{
     let mut found = Finding::new(alloc, whole.text);
     tell(&mut found, node_of(whole, section, index, concern), concern);
     let place = found.place();
@@ -149,7 +157,9 @@ fn warning_of(
 }
 
 /// The steps of a list.
-fn steps_in(script: &ScriptParts, section: Section) -> &[Step] {
+fn steps_in(script: &ScriptParts, section: Section) -> &[Step]
+    ensures { result.now ≡ spec.steps_in script.now section }
+{
     match section {
         Section::Setup => script.setup.as_slice(),
         Section::Steps => script.steps.as_slice(),
@@ -164,7 +174,10 @@ fn add_warning(
     section: Section,
     index: usize,
     concern: Option<Concern>,
-) -> Result<(), AllocError> {
+) -> Result<(), AllocError>
+    ensures { OnOk result (hints_of found.new.items
+        ≡ with_hints (hinted section index concern) (hints_of found.old.items)) }
+{
     if let Some(concern) = concern {
         if found.len() < MOST_WARNINGS {
             let alloc = *found.allocator();
@@ -182,7 +195,14 @@ fn add_warnings<'a>(
     known: Known,
     whole: Node,
     section: Section,
-) -> Result<Run<'a>, AllocError> {
+) -> Result<Run<'a>, AllocError>
+    requires known { known ≡ known_of script.now }
+    requires order { AreInOrder script.now (place_in script.now section 0) found.old.items }
+    ensures goes { IfOk result (λ run. Goes script.now section start.entry found.old.items
+        (length (spec.steps_in script.now section)) run found.new.items) }
+    ensures order { OnOk result (AreInOrder script.now
+        (place_in script.now section (length (spec.steps_in script.now section))) found.new.items) }
+{
     let steps = steps_in(script, section);
     let mut run = start;
     for index in 0..steps.len() {
@@ -205,7 +225,11 @@ fn add_warnings<'a>(
 /// # Errors
 ///
 /// Memory runs out.
-pub fn warnings(alloc: Global, text: &[u8], script: &Script) -> Result<Vec<Warning>, AllocError> {
+pub fn warnings(alloc: Global, text: &[u8], script: &Script) -> Result<Vec<Warning>, AllocError>
+    ensures order { IfOk result (λ found.
+        AreInOrder script.now (length script.now.setup + length script.now.steps) found.items) }
+    ensures warnings { IfOk result (λ found. AreWarnings script.now found.items) }
+{
     let tokens = tokens_of(alloc, text)?;
     let whole = Node {
         text,

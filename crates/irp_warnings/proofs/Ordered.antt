@@ -1,0 +1,130 @@
+-- Warnings in the order of the text.
+use Rattle.std.proofs.Common.{◌≡◌, ℕ, ◌+◌, ◌<◌, ◌≤◌, Bool, true, false, List, [], ◌∷◌, ◌++◌, length, map, take, get_or, slice_get, if◌then◌else◌, nat_lt, Option, Some, None, All, AllPairs, refl, sym, ap, subst, ◌∙◌, arith, append-nil, length-append, length-take, take_all, ltb-true, ltb-false}
+use Rattle.std.proofs.lemmas.List.{map-append, take-append-le, length-map}
+use Rattle.std.proofs.lemmas.List.Elements.{All-push}
+use Rattle.std.proofs.lemmas.List.Quantifiers.{all_pairs_push}
+use Rattle.std.proofs.lemmas.Option.{none-some}
+use Rattle.irp_script_reader.specs.declared.act.Step.{Step}
+use Rattle.irp_script_reader.specs.declared.refusal.Section.{Section}
+use Rattle.irp_script_reader.specs.declared.script.ScriptParts.{ScriptParts}
+use Rattle.irp_plain.specs.declared.answered.Answered.{Answered}
+use Rattle.irp_plain.specs.declared.parts.After.{After}
+use Rattle.irp_machine.specs.Machine.{act_of}
+use Rattle.irp_machine.specs.Runs.{RunValue, RunsOn, act_in}
+use Rattle.irp_machine.specs.declared.parts.Planned.{Planned}
+use Rattle.irp_warnings.specs.Concerns.{Hint, concern_of}
+use Rattle.irp_warnings.specs.Warned.{AreFirst, AreInOrder, Goes, IsMade, IsThere, MadeStep, Plays, hint_of, hinted, hints, hints_in, hints_of, place_in, place_of, steps_in, with_hints}
+use Rattle.irp_warnings.specs.declared.warning.Concern.{Concern}
+use Rattle.irp_warnings.specs.declared.warning.Warning.{Warning}
+
+-- ---- steps that were made
+
+-- a seat that is told nothing has nothing to do
+ended : (old new : RunValue) (seat : ℕ) (act : Option Planned) (after : Option After) → after ≡ None → RunsOn old seat act after new
+    → (old ≡ new) × (act ≡ None)
+ended old new seat None after none runs = (sym runs.1, refl)
+ended old new seat (Some planned) after none runs = absurd (none-some runs.0 (sym none ∙ runs.1))
+
+pub played_out : (old new : RunValue) (seat place : ℕ) (after : Option After) → after ≡ None
+    → RunsOn old seat (act_in place (act_of old.rules old.standing seat)) after new → Plays old seat place [] new
+played_out old new seat place after none runs =
+    let is = ended old new seat (act_in place (act_of old.rules old.standing seat)) after none runs in
+    (is.0, subst (λ (run : RunValue). act_in place (act_of run.rules run.standing seat) ≡ None) is.0 is.1)
+
+-- ---- the first 100
+
+-- fewer than n, which are the first n of a list, are the list
+whole : (n : ℕ) (xs told : List Hint) → told ≡ take n xs → length told < n → length xs ≤ n
+whole n xs told is few =
+    let size = length-take n xs in
+    let same = ap length is in
+    omega (arith, size, same, few)
+
+several : (n : ℕ) (xs told : List Hint) → told ≡ take n xs → n ≤ length told → n ≤ length xs
+several n xs told is many =
+    let size = length-take n xs in
+    let same = ap length is in
+    omega (arith, size, same, many)
+
+room : (test : Bool) (xs told : List Hint) (new : List Hint → List Hint) → ((told : List Hint) → length (new told) ≤ 1) → told ≡ take 100 xs → nat_lt (length told) 100 ≡ test
+    → (if test then told ++ new told else told) ≡ take 100 (xs ++ new xs)
+room true xs told new one is test =
+    let few = ltb-true (length told) 100 test in
+    let same : told ≡ xs = is ∙ take_all 100 xs (whole 100 xs told is few) in
+    let all : length (xs ++ new xs) ≤ 100 = omega (arith, length-append xs (new xs), one xs, ap length same, few) in
+    ap (λ (told : List Hint). told ++ new told) same ∙ sym (take_all 100 (xs ++ new xs) all)
+room false xs told new one is test =
+    is ∙ sym (take-append-le 100 xs (new xs) (several 100 xs told is (ltb-false (length told) 100 test)))
+
+pub first_100 : (xs told : List Hint) (new : List Hint → List Hint) → ((told : List Hint) → length (new told) ≤ 1) → told ≡ take 100 xs
+    → with_hints (new told) told ≡ take 100 (xs ++ new xs)
+first_100 xs told new one is = room (nat_lt (length told) 100) xs told new one is refl
+
+pub hinted_once : (section : Section) (index : ℕ) (concern : Option Concern) → length (hinted section index concern) ≤ 1
+hinted_once section index None = omega arith
+hinted_once section index (Some concern) = omega arith
+
+-- ---- where they stand
+
+within : (script : ScriptParts) (limit more : ℕ) (hint : Hint) → limit ≤ more → IsThere script limit hint → IsThere script more hint
+within script limit more hint wider there = record { within = there.within; before = omega (arith, wider, there.before) }
+
+same_told : (script : ScriptParts) (limit more : ℕ) (old new : List Warning) → limit ≤ more → hints_of new ≡ hints_of old → AreInOrder script limit old
+    → AreInOrder script more new
+same_told script limit more old new wider same told = record {
+  few = omega (arith, told.few, length-map new hint_of, length-map old hint_of, ap length same);
+  there = subst (λ hints. All (IsThere script more) hints) (sym same) (λ k d few. within script limit more _ wider (told.there k d few));
+  order = subst (λ hints. AllPairs (λ one later. place_of script one < place_of script later) hints) (sym same) told.order;
+}
+
+one_told : (script : ScriptParts) (limit more : ℕ) (old new : List Warning) (hint : Hint) → limit ≤ place_of script hint → IsThere script more hint
+    → length (hints_of old) < 100 → hints_of new ≡ hints_of old ++ hint ∷ [] → AreInOrder script limit old → AreInOrder script more new
+one_told script limit more old new hint behind there few is told =
+    let all : All (IsThere script more) (hints_of old) = λ k d below. within script limit more _ (omega (arith, behind, there.before)) (told.there k d below) in
+    let rises : (k : ℕ) (d : Hint) → k < length (hints_of old) → place_of script (get_or (hints_of old) k d) < place_of script hint = λ k d below. omega (arith, behind, (told.there k d below).before) in
+    record {
+      few = omega (arith, few, length-map new hint_of, ap length is, length-append (hints_of old) (hint ∷ []));
+      there = subst (λ hints. All (IsThere script more) hints) (sym is) (All-push (IsThere script more) (hints_of old) hint all there);
+      order = subst (λ hints. AllPairs (λ one later. place_of script one < place_of script later) hints) (sym is)
+          (all_pairs_push (λ one later. place_of script one < place_of script later) (hints_of old) hint told.order rises);
+    }
+
+if_told : (test : Bool) (script : ScriptParts) (limit more : ℕ) (old new : List Warning) (hint : Hint) → limit ≤ place_of script hint → IsThere script more hint
+    → nat_lt (length (hints_of old)) 100 ≡ test → hints_of new ≡ (if test then hints_of old ++ hint ∷ [] else hints_of old) → AreInOrder script limit old
+    → AreInOrder script more new
+if_told true script limit more old new hint behind there test is told =
+    one_told script limit more old new hint behind there (ltb-true (length (hints_of old)) 100 test) is told
+if_told false script limit more old new hint behind there test is told =
+    same_told script limit more old new (omega (arith, behind, there.before)) is told
+
+by_test : (test : Bool) (told : List Hint) → (if test then told ++ [] else told) ≡ told
+by_test true told = append-nil told
+by_test false told = refl
+
+unchanged : (told : List Hint) → with_hints [] told ≡ told
+unchanged told = by_test (nat_lt (length told) 100) told
+
+pub told_more : (script : ScriptParts) (section : Section) (index : ℕ) (concern : Option Concern) (old new : List Warning)
+    → index < length (steps_in script section) → hints_of new ≡ with_hints (hinted section index concern) (hints_of old)
+    → AreInOrder script (place_in script section index) old → AreInOrder script (place_in script section (index + 1)) new
+told_more script section index None old new there is told =
+    same_told script (place_in script section index) (place_in script section (index + 1)) old new (omega arith) (is ∙ unchanged (hints_of old)) told
+told_more script section index (Some concern) old new there is told =
+    if_told (nat_lt (length (hints_of old)) 100) script (place_in script section index) (place_in script section (index + 1)) old new
+    (record { section = section; index = index; concern = concern }) (omega arith) (record { within = there; before = omega arith }) refl is told
+
+-- ---- a step more
+
+-- one more step was made, and what isn't meant in it is told
+pub goes_on : (script : ScriptParts) (section : Section) (start before run : RunValue) (first old new : List Warning) (index : ℕ) (step : Step)
+    (answer : Option Answered) → slice_get (steps_in script section) index ≡ Some step → IsMade before step.seat index answer run
+    → hints_of new ≡ with_hints (hinted section index (concern_of script run (hints_of old) step answer)) (hints_of old)
+    → Goes script section start first index before old → Goes script section start first (index + 1) run new
+goes_on script section start before run first old new index step answer there made is goes = λ earlier so.
+    let far = goes earlier so in
+    let one : MadeStep = record { section = section; index = index; step = step; answer = answer; run = run } in
+    let more = first_100 (hints script (far.0 ++ earlier)) (hints_of old) (hints_in script one) (λ told. hinted_once section index (concern_of script run told step answer)) far.3 in
+    (one ∷ far.0, (before, far.1, refl, sym far.2, there, made, refl), omega (arith, far.2), is ∙ more)
+
+pub goes_first : (script : ScriptParts) (section : Section) (start : RunValue) (found : List Warning) → Goes script section start found 0 start found
+goes_first script section start found earlier so = ([], refl, refl, so)
