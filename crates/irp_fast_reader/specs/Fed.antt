@@ -72,6 +72,11 @@ abbrev pub IsNextLine : List ℕ → ReadFault → Type 0
 IsNextLine text (faults.Line line) = line ≡ length (cut text).0 + 1
 IsNextLine text faults.NoMemory = ⊤
 
+-- a line is refused; memory didn't run out
+abbrev pub IsLineFault : ReadFault → Type 0
+IsLineFault (faults.Line line) = ⊤
+IsLineFault faults.NoMemory = ⊥
+
 -- the answer at the end of the text: the transcript, unless the text ends before its last line does
 abbrev pub ended : TranscriptValue → Result (Unit {0}) ReadFault → Result TranscriptValue ReadFault
 ended before (Ok done) = Ok before

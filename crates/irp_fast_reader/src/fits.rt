@@ -52,21 +52,9 @@ fn asked_fits(asked: &[Asked]) -> bool
 fn call_fits(call: Call) -> bool
     ensures { result ≡ true ↔ spec.CallFits call }
 {
-    match call {
-        Call::Free { irp }
-        | Call::Reuse { irp, .. }
-        | Call::SetNext { irp, .. }
-        | Call::CopyToNext { irp, .. }
-        | Call::Skip { irp, .. }
-        | Call::SetRoutine { irp, .. }
-        | Call::MarkPending { irp, .. }
-        | Call::CallDriver { irp, .. }
-        | Call::Complete { irp, .. }
-        | Call::FinishTaken { irp, .. }
-        | Call::SetCancelRoutine { irp, .. }
-        | Call::Cancel { irp }
-        | Call::Look { irp } => irp_fits(irp),
-        _ => true,
+    match call.packet() {
+        Some(irp) => irp_fits(irp),
+        None => true,
     }
 }
 

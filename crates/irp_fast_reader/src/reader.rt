@@ -18,7 +18,7 @@ ghost use Rattle.std.specs.Prelude.{
 };
 ghost use Rattle.irp_transcript.specs.Transcripts.{TranscriptValue, no_lines};
 ghost use Rattle.irp_transcript_reader.specs.Reading.{ReadsFrom, cut};
-ghost use Rattle.irp_fast_reader.specs.Fed.{Given, Gives, HasRead, HasTaken, IsNextLine, Keeps, ended, fault_at};
+ghost use Rattle.irp_fast_reader.specs.Fed.{Given, Gives, HasRead, HasTaken, IsLineFault, IsNextLine, Keeps, ended, fault_at};
 
 use crate::line_reader::LineReader;
 use irp_forms::Unread;
@@ -134,15 +134,16 @@ impl Reader {
     ///
     /// # Errors
     ///
-    /// `ReadFault::Line` with the number, from 1, of the last line, where it has no newline.
+    /// `ReadFault::Line`, the one error, with the number, from 1, of the last line, where it has no newline.
     pub fn finish(&self) -> Result<(), ReadFault>
-        ensures { (text : List ℕ) (before : TranscriptValue) → HasRead self.now text before
+        ensures ended { (text : List ℕ) (before : TranscriptValue) → HasRead self.now text before
             → length text < 2 ^ 64 → ReadsFrom no_lines 0 (ended before result) (cut text) }
+        ensures line { IfErr result IsLineFault }
     {
         if self.kept.is_empty() {
             Ok(())
         } else {
-            Err(self.fault(Unread::Form))
+            Err(ReadFault::Line(self.count.saturating_add(1)))
         }
     }
 }

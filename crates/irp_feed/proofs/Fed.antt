@@ -8,16 +8,17 @@ use Rattle.irp_transcript.specs.declared.header.Header.{Header}
 use Rattle.irp_transcript_reader.specs.Reading.{ReadsFrom, TakesAll, cut, with_line}
 use Rattle.irp_transcript_reader.specs.declared.read_fault.ReadFault.{ReadFault}
 use Rattle.irp_transcript_reader.specs.declared.read_fault.ReadFault.TheVariants.{Line as LineFault, NoMemory as FaultMemory}
-use Rattle.irp_fast_reader.specs.Fed.{Gives, IsInPlace, IsNextLine}
+use Rattle.irp_fast_reader.specs.Fed.{Gives, IsInPlace, IsLineFault, IsNextLine}
 use Rattle.irp_transcript_reader.specs.declared.line.Line.{Line}
 use Rattle.irp_transcript_reader.specs.declared.line.Line.TheVariants.{Header as HeaderLine, Entry as EntryLine, Word as WordLine}
 use Rattle.irp_fast_reader.specs.declared.reader.Reader.{Reader}
 use Rattle.irp_fast_reader.proofs.Blocks.{Cut, cut_onward}
 use Rattle.irp_fast_reader.proofs.Whole.{refused_last}
 use Rattle.irp_feed.specs.Input.{Bytes, IsInput, TakesAtMost, most_bytes, most_taken}
-use Rattle.irp_feed.specs.Feeding.{AreAllBefore, Drains, Fails, FailsBehind, HoldsNone, IsHopeless, IsNoneOf, IsSoFar, IsTextOfNone, SayFirst, Stops, line_in, piece_of, refused_line, unfed_of}
+use Rattle.irp_feed.specs.Feeding.{AreAllBefore, Drains, Fails, FailsBehind, HoldsNone, IsHopeless, IsNoBlock, IsNoneOf, IsSoFar, IsTextOfNone, SayFirst, Stops, line_in, piece_of, refused_line, unfed_of}
 use Rattle.irp_feed.specs.declared.input.InputFailed.{InputFailed}
 use Rattle.irp_feed.specs.declared.unfed.RefusedLine.{RefusedLine}
+use Rattle.irp_feed.specs.declared.unfed.RefusedLine.TheVariants.{NoNewline}
 use Rattle.irp_feed.proofs.Pieces.{reads_on}
 
 -- the first line is a header
@@ -119,6 +120,11 @@ all_before_end FaultMemory text before taken reads = tt
 pub line_told : (fault : ReadFault) (refused : RefusedLine) → refused_line (unfed_of fault refused) ≡ line_in fault
 line_told (LineFault line) refused = refl
 line_told FaultMemory refused = refl
+
+-- a line without a newline is refused at the end
+pub no_block : (fault : ReadFault) → IsLineFault fault → IsNoBlock (unfed_of fault NoNewline)
+no_block (LineFault line) is = tt
+no_block FaultMemory is = absurd is
 
 -- the first line that is refused
 pub hopeless_of : (fault : ReadFault) (after : Reader) (text : List ℕ) (before : TranscriptValue) (block : List ℕ) → Gives (Err fault) after text before block

@@ -14,8 +14,9 @@ use Rattle.irp_feed.specs.Input.{Bytes, Holds, IsInput, IsRefused, IsTextOf, Tak
 use Rattle.irp_feed.specs.declared.header.Start.{Start}
 use Rattle.irp_feed.specs.declared.input.InputFailed.{InputFailed}
 use Rattle.irp_feed.specs.declared.unfed.RefusedLine.{RefusedLine}
+use Rattle.irp_feed.specs.declared.unfed.RefusedLine.TheVariants.{NoNewline}
 use Rattle.irp_feed.specs.declared.unfed.Unfed.{Unfed}
-use Rattle.irp_feed.specs.declared.unfed.Unfed.TheVariants.{Refused, NoMemory}
+use Rattle.irp_feed.specs.declared.unfed.Unfed.TheVariants.{Input, Refused, NoMemory}
 
 -- ---- lines
 
@@ -126,6 +127,12 @@ NextBlock (Ok (Some count)) old now left buffer text before =
 NextBlock (Ok None) old now left buffer text before = IsInput old now text × IsTextOf text before
 NextBlock (Err unfed) old now left buffer text before =
     FailsBehind text old now (refused_line unfed) × AreAllBefore (refused_line unfed) (length (cut text).0)
+
+-- why there is no next block: the input failed, or a line without a newline stands at its end
+abbrev pub IsNoBlock : Unfed → Type 0
+IsNoBlock Input = Unit {0}
+IsNoBlock (Refused line NoNewline) = Unit {0}
+IsNoBlock other = ⊥
 
 -- what becomes of the input up to its header, where it may have no lines
 abbrev pub IsStart : Bytes → Bytes → Result (Option Start) Unfed → Reader → List ℕ → Type 0

@@ -1,10 +1,10 @@
 //! The lines behind the header of a text.
 
-ghost use Rattle.std.specs.Prelude.{ℕ, ◌≡◌, ◌<◌, ◌≤◌, ◌+◌, List, ◌++◌, length, IfOk, IfSome};
+ghost use Rattle.std.specs.Prelude.{ℕ, ◌≡◌, ◌<◌, ◌≤◌, ◌+◌, List, ◌++◌, length, IfErr, IfOk, IfSome};
 ghost use Rattle.irp_fast_reader.specs.Fed.{HasRead};
 ghost use Rattle.irp_transcript.specs.Transcripts.{TranscriptValue};
 ghost use Rattle.irp_feed.specs.Input.{Bytes, most_bytes};
-ghost use Rattle.irp_feed.specs.Feeding.{AreAllBefore, AreRead, FailsBehind, FeedsBlock, FeedsRest, IsHopeless, IsSoFar, NextBlock, Starts, header_alone, refused_line};
+ghost use Rattle.irp_feed.specs.Feeding.{AreAllBefore, AreRead, FailsBehind, FeedsBlock, FeedsRest, IsHopeless, IsNoBlock, IsSoFar, NextBlock, Starts, header_alone, refused_line};
 
 use crate::header::Start;
 use crate::input::{drain, take_block};
@@ -42,7 +42,7 @@ pub fn refuse<R: Read>(input: &mut R, buffer: &mut [u8], left: usize, unfed: Unf
 ///
 /// # Errors
 ///
-/// `Input` where the input failed, or has more bytes; `Refused` where the text has no newline at its end.
+/// `Input` where the input failed, or has more bytes; `Refused` where the text has no newline at its end, and no other.
 pub fn next_block<R: Read>(
     input: &mut R,
     buffer: &mut [u8],
@@ -57,6 +57,7 @@ pub fn next_block<R: Read>(
     ensures next { (old : Bytes) (text : List ℕ) (before : TranscriptValue)
         → IsSoFar old (R.remaining input.old) left text → HasRead reader.now text before
         → NextBlock result old (R.remaining input.new) left buffer.new text before }
+    ensures fault { IfErr result IsNoBlock }
 {
     match take_block(input, buffer, left) {
         Ok(0) => match reader.finish() {

@@ -18,7 +18,6 @@ ghost use Rattle.irp_judge.specs.Looks.{looked};
 use crate::cause::Cause;
 use crate::causes::{cause_in, cause_of};
 use crate::comparing::first_difference;
-use crate::looks::shown_by;
 use crate::replaying::made_of;
 use crate::verdict::{Verdict, Wrong};
 use irp_manager::{ManagerState, MapKeep};
@@ -168,7 +167,7 @@ impl<'a> Judge<'a> {
         };
         match self.would(Call::Look { irp }, false) {
             Some(refusal) => Reply::Refused(refusal),
-            None => Reply::Seen(shown_by(&live.packet)),
+            None => Reply::Seen(live.packet.seen()),
         }
     }
 

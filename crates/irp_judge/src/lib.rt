@@ -8,7 +8,6 @@ mod checker;
 mod comparing;
 mod difference;
 mod judge;
-mod looks;
 mod recorded_answers;
 mod replaying;
 mod verdict;

@@ -3,3 +3,4 @@ pub mod Choosing
 pub mod Heads
 pub mod Lines
 pub mod Listing
+pub mod WordLines

@@ -1,8 +1,11 @@
 -- The blocks of the entries that are chosen, and the lines of word lines.
-use Rattle.std.specs.Prelude.{ℕ, ◌≡◌, ◌⊎◌, List, [], ◌∷◌, ◌++◌, length, codes, Bool, true, false, Option}
+use Rattle.std.specs.Prelude.{ℕ, ◌≡◌, ◌⊎◌, List, [], ◌∷◌, ◌++◌, codes, Bool, true, false, Option}
+use Rattle.std.specs.List.{flat_map}
 use Rattle.irp_types.specs.declared.entry.Entry.{Entry}
-use Rattle.irp_listing.specs.Blocks.{AddsLines, IsBlock}
+use Rattle.irp_listing.specs.Blocks.{IsBlock}
 use Rattle.irp_listing.specs.Choosing.{IsChosen}
+use Rattle.irp_listing.specs.Lines.{further_of}
+use Rattle.irp_listing.specs.WordLines.{word_line_text}
 use Rattle.irp_transcript.specs.declared.word_line.WordLine.{WordLine}
 use Rattle.irp_types.specs.declared.names.IrpRef.{IrpRef}
 
@@ -32,16 +35,20 @@ abbrev pub heading_above : Bool → List ℕ
 heading_above true = words_heading
 heading_above false = []
 
--- the text for word lines: the heading, and a line for each; nothing where there is none
-abbrev pub AreWordLines : List WordLine → List ℕ → Type 0
-AreWordLines [] text = text ≡ []
-AreWordLines (word ∷ words) text = AddsLines (length (word ∷ words)) words_heading text
+-- the line of a word line
+abbrev pub word_line_of : WordLine → List ℕ
+word_line_of line = further_of (word_line_text line)
+
+-- the text of word lines: the heading, and a line for each; nothing where there is none
+abbrev pub word_lines_of : List WordLine → List ℕ
+word_lines_of [] = []
+word_lines_of (line ∷ lines) = words_heading ++ flat_map word_line_of (line ∷ lines)
 
 -- there is no word line
 abbrev pub are_none : List WordLine → Bool
 are_none [] = true
-are_none (word ∷ words) = false
+are_none (line ∷ lines) = false
 
 -- the line of one more was put behind what stood there, below the heading if it is the first
-abbrev pub AddsWordLine : Bool → List ℕ → List ℕ → Type 0
-AddsWordLine is_first before after = AddsLines 1 (before ++ heading_above is_first) after
+abbrev pub AddsWordLine : Bool → WordLine → List ℕ → List ℕ → Type 0
+AddsWordLine is_first line before after = after ≡ before ++ (heading_above is_first ++ word_line_of line)

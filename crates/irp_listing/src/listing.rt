@@ -3,8 +3,9 @@
 ghost use Rattle.std.specs.Prelude.{◌≡◌, ◌++◌, OnOk};
 ghost use Rattle.irp_listing.specs.Listing.{AddsChosen, AddsWordLine, heading_above};
 
-use crate::blocks::{put_block, put_shown};
+use crate::blocks::put_block;
 use crate::choosing::{Choice, is_chosen};
+use crate::lines::put_further;
 use crate::stacks::Stacks;
 use crate::word_lines::WordLineWords;
 use irp_transcript::WordLine;
@@ -47,8 +48,10 @@ pub fn put_word_line(
     is_first: bool,
     line: WordLine,
 ) -> Result<(), AllocError>
-    ensures { OnOk result (AddsWordLine is_first pending.old.items pending.new.items) }
+    ensures { OnOk result (AddsWordLine is_first line pending.old.items pending.new.items) }
 {
     put_heading(pending, is_first)?;
-    put_shown(pending, words, 0, WordLineWords(line))
+    words.clear();
+    write!(words, "{}", WordLineWords(line))?;
+    put_further(pending, words.as_str())
 }

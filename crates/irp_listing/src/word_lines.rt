@@ -1,5 +1,8 @@
 //! Word lines: steps on remove locks and on cancel slots.
 
+ghost use Rattle.std.specs.Prelude.{◌≡◌, Some};
+ghost use Rattle.irp_listing.specs.WordLines.{act_text, fixed_words, in_flight, reply_text, word_line_text};
+
 use irp_names::{HandWords, LockActWords, SlotActWords};
 use irp_transcript::{Act, WordLine, WordReply};
 use std::fmt;
@@ -9,6 +12,8 @@ use std::fmt;
 pub struct WordLineWords(pub WordLine);
 
 impl fmt::Display for WordLineWords {
+    ghost output = { λ words. Some (word_line_text words.0) };
+
     fn fmt<W: fmt::Write>(&self, f: &mut fmt::Formatter<W>) -> fmt::Result {
         let WordLine {
             seat,
@@ -32,6 +37,8 @@ impl fmt::Display for WordLineWords {
 struct ActWords(Act);
 
 impl fmt::Display for ActWords {
+    ghost output = { λ words. Some (act_text words.0) };
+
     fn fmt<W: fmt::Write>(&self, f: &mut fmt::Formatter<W>) -> fmt::Result {
         match self.0 {
             Act::OnLock(act) => write!(f, "{}", LockActWords(act)),
@@ -49,43 +56,47 @@ impl fmt::Display for ActWords {
 struct WordReplyWords(WordReply);
 
 impl fmt::Display for WordReplyWords {
+    ghost output = { λ words. Some (reply_text words.0) };
+
     fn fmt<W: fmt::Write>(&self, f: &mut fmt::Formatter<W>) -> fmt::Result {
-        match parts_of(self.0) {
-            (words, None, _) => f.write_str(words),
-            (before, Some(number), behind) => write!(f, "{}{}{}", before, number, behind),
+        match self.0 {
+            WordReply::Busy { word } => {
+                write!(f, "busy: {}{}", word / 2, in_flight(word % 2 == 1))
+            }
+            WordReply::Taken { use_no } => write!(f, "took use {}", use_no),
+            other => f.write_str(fixed_words(other)),
         }
     }
 }
 
-/// An answer: words, a number where it has one, and the words behind that.
-fn parts_of(reply: WordReply) -> (&'static str, Option<u64>, &'static str) {
+/// An answer that has no number.
+fn fixed_words(reply: WordReply) -> &'static str
+    ensures { result.now ≡ fixed_words reply }
+{
     match reply {
-        WordReply::Acquired => ("STATUS_SUCCESS", None, ""),
-        WordReply::DeletePending => ("STATUS_DELETE_PENDING: removal has begun", None, ""),
-        WordReply::Done => ("done", None, ""),
-        WordReply::SeatFull => ("seat_full: the seat holds 64 references", None, ""),
-        WordReply::NotHeld => (
-            "not_held: the seat doesn't hold the lock under this tag",
-            None,
-            "",
-        ),
-        WordReply::AlreadyRemoving => ("already_removing: another removal came first", None, ""),
-        WordReply::NoLock => ("no_lock: there is no such remove lock", None, ""),
-        WordReply::Yes => ("yes: it is drained", None, ""),
-        WordReply::Standing => ("standing: a request may take it", None, ""),
-        WordReply::Lost => ("lost: a request took it", None, ""),
-        WordReply::Nothing => ("nothing: the slot is empty", None, ""),
-        WordReply::Used => ("used: the slot served before", None, ""),
-        WordReply::NotStanding => ("not_standing: nothing of this seat stands there", None, ""),
-        WordReply::NoSlot => ("no_slot: there is no such cancel slot", None, ""),
-        WordReply::NoToken => ("no_token: the seat took nothing from it", None, ""),
-        WordReply::Busy { word } => ("busy: ", Some(word / 2), in_flight(word % 2 == 1)),
-        WordReply::Taken { use_no } => ("took use ", Some(use_no), ""),
+        WordReply::Acquired => "STATUS_SUCCESS",
+        WordReply::DeletePending => "STATUS_DELETE_PENDING: removal has begun",
+        WordReply::Done => "done",
+        WordReply::SeatFull => "seat_full: the seat holds 64 references",
+        WordReply::NotHeld => "not_held: the seat doesn't hold the lock under this tag",
+        WordReply::AlreadyRemoving => "already_removing: another removal came first",
+        WordReply::NoLock => "no_lock: there is no such remove lock",
+        WordReply::Yes => "yes: it is drained",
+        WordReply::Standing => "standing: a request may take it",
+        WordReply::Lost => "lost: a request took it",
+        WordReply::Nothing => "nothing: the slot is empty",
+        WordReply::Used => "used: the slot served before",
+        WordReply::NotStanding => "not_standing: nothing of this seat stands there",
+        WordReply::NoSlot => "no_slot: there is no such cancel slot",
+        WordReply::NoToken => "no_token: the seat took nothing from it",
+        WordReply::Busy { .. } | WordReply::Taken { .. } => "",
     }
 }
 
 /// What is counted of a lock that is busy, and whether a removal of it has begun.
-fn in_flight(has_begun: bool) -> &'static str {
+fn in_flight(has_begun: bool) -> &'static str
+    ensures { result.now ≡ in_flight has_begun }
+{
     if has_begun {
         " references or attempts in flight, removal has begun"
     } else {

@@ -1,10 +1,11 @@
 -- What the program takes of its input, and puts into its output.
-use Rattle.std.specs.Prelude.{ℕ, ◌≡◌, ◌<◌, ◌++◌, ◌∷◌, ◌⊎◌, [], List, Bool, true, false, length, IfSome}
+use Rattle.std.specs.Prelude.{ℕ, ◌≡◌, ◌++◌, ◌∷◌, ◌⊎◌, [], List, Bool, true, false, IfSome}
 use Rattle.std.specs.Io.{StopsAt}
 use Rattle.std.specs.Io.BufRead.{take_through}
-use Rattle.std.specs.Io.KnownBytes.{Appends, Consumes}
-use Rattle.irp_streams.specs.Out.{risen}
+use Rattle.std.specs.Io.KnownBytes.{Consumes}
 use Rattle.irp_streams.specs.Streams.{Bytes, Output}
+use Rattle.irp_streams.specs.Writing.{BreaksOff, Written}
+use Rattle.irp_streams.specs.declared.reading.StreamFault.TheVariants.{Failed}
 
 -- what was taken of an input is all up to its first newline, or to its end
 abbrev pub IsUpToNewline : Bytes → List ℕ → Type 0
@@ -27,16 +28,11 @@ TakesSome old new = (taken : List ℕ) × Consumes old new taken
 
 -- all of the text went out, and nothing failed
 abbrev pub Puts : List ℕ → Output → Output → Type 0
-Puts text old new = Appends old.gone new.gone text × (new.failures ≡ old.failures)
+Puts text old new = Written text old.gone new.gone old.failures new.failures
 
 -- a beginning of the text went out, which isn't the whole, and the output failed
-pub record Breaks (text : List ℕ) (old new : Output) : Type 0 where
-  pub front : List ℕ
-  pub rest : List ℕ
-  pub whole : text ≡ front ++ rest
-  pub short : 0 < length rest
-  pub gone : Appends old.gone new.gone front
-  pub failed : new.failures ≡ risen old.failures
+abbrev pub Breaks : List ℕ → Output → Output → Type 0
+Breaks text old new = BreaksOff text old.gone new.gone old.failures new.failures Failed
 
 -- nothing of the text went out, or it broke off
 abbrev pub IsCut : List ℕ → Output → Output → Type 0

@@ -1,11 +1,9 @@
-//! Lines in and out.
+//! Lines in.
 
-ghost use Rattle.std.specs.Prelude.{◌≡◌, IfErr, IfOk, OnErr, OnOk};
-ghost use Rattle.irp_streams.specs.Streams.{output_of};
-ghost use Rattle.irp_live.specs.Streams.{Breaks, IsRead, Puts, TakesSome};
-ghost use Rattle.irp_streams.specs.declared.reading.StreamFault.TheVariants.{Failed};
+ghost use Rattle.std.specs.Prelude.{IfOk};
+ghost use Rattle.irp_live.specs.Streams.{IsRead, TakesSome};
 
-use irp_streams::{Out, StreamFault, put_all};
+use irp_streams::StreamFault;
 use std::io::{BufRead, ErrorKind};
 
 /// Reads the next line in place of what the room has, without its newline. False where there is no newline any more;
@@ -27,19 +25,5 @@ pub fn read_line<R: BufRead>(input: &mut R, line: &mut Vec<u8>) -> Result<bool, 
     match line.pop() {
         Some(b'\n') => Ok(true),
         _ => Ok(false),
-    }
-}
-
-/// Puts a text out. On `Failed`, the one error, a beginning of it went out.
-pub fn put<O: Out>(output: &mut O, text: &[u8]) -> Result<(), StreamFault>
-    ensures ok { OnOk result (Puts text.now (output_of (O.gone output.old) (O.failures output.old))
-        (output_of (O.gone output.new) (O.failures output.new))) }
-    ensures err { OnErr result (Breaks text.now (output_of (O.gone output.old) (O.failures output.old))
-        (output_of (O.gone output.new) (O.failures output.new))) }
-    ensures fault { IfErr result (λ fault. fault ≡ Failed) }
-{
-    match put_all(output, text) {
-        Ok(()) => Ok(()),
-        Err(_) => Err(StreamFault::Failed),
     }
 }

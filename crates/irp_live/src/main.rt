@@ -16,7 +16,7 @@ ghost use Rattle.irp_streams.specs.Streams.{streams_of};
 use crate::ending::{Ending, ending_of};
 use crate::order::{HELP, Order, words_ask};
 use irp_program::stop;
-use irp_streams::{Out, WriterOut};
+use irp_streams::{Out, WriterOut, send};
 use std::alloc::Global;
 use std::io::{self, BufRead};
 use std::process::ExitCode;
@@ -29,7 +29,7 @@ fn run<R: BufRead, O: Out>(alloc: Global, input: &mut R, output: &mut O, order: 
 {
     match order {
         Order::Live => ending_of(talking::live(alloc, input, output)),
-        Order::Help => match lines::put(output, HELP.as_bytes()) {
+        Order::Help => match send(output, HELP.as_bytes()) {
             Ok(()) => Ending::Done,
             Err(_) => Ending::Failed,
         },

@@ -25,12 +25,12 @@ ghost use Rattle.irp_live.specs.Talking.{
 };
 
 use crate::asking::{LineFault, Unheard, value_of};
-use crate::lines::{put, read_line};
+use crate::lines::read_line;
 use crate::session::Session;
 use crate::told::Faulty;
 use irp_forms::Unread;
 use irp_judge::Verdict;
-use irp_streams::{Out, StreamFault};
+use irp_streams::{Out, StreamFault, send};
 use irp_transcript::Header;
 use irp_transcript_reader::Reading;
 use irp_transcript_writer::line_of;
@@ -70,7 +70,7 @@ fn turn<R: BufRead, O: Out>(
     match session.reply(alloc, number, line.as_slice())? {
         None => Ok(false),
         Some(said) => {
-            match put(output, said.as_slice()) {
+            match send(output, said.as_slice()) {
                 Ok(()) => Ok(true),
                 Err(fault) => Err(fault),
             }
@@ -159,7 +159,7 @@ fn tell<O: Out>(alloc: Global, output: &mut O, verdict: Verdict) -> Result<(), S
     let Ok(line) = verdict_line(alloc, verdict) else {
         return Err(StreamFault::NoMemory);
     };
-    put(output, line.as_bytes())
+    send(output, line.as_bytes())
 }
 
 /// Answers the lines behind the header's, and tells the verdict.
@@ -197,7 +197,7 @@ fn accept<O: Out>(alloc: Global, output: &mut O) -> Result<(), StreamFault>
     let Ok(answer) = line_of(alloc, &None::<Refusal>) else {
         return Err(StreamFault::NoMemory);
     };
-    put(output, answer.as_slice())
+    send(output, answer.as_slice())
 }
 
 /// Answers the header's line, and those behind it. The verdict.
@@ -235,7 +235,7 @@ fn refuse<O: Out>(alloc: Global, output: &mut O, fault: LineFault) -> Result<(),
     let Ok(complaint) = line_of(alloc, &Faulty { fault, line: 1 }) else {
         return Err(StreamFault::NoMemory);
     };
-    put(output, complaint.as_slice())
+    send(output, complaint.as_slice())
 }
 
 /// What a first line gives.

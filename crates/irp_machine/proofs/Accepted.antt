@@ -16,10 +16,9 @@ use Rattle.irp_steps.specs.Behaviours.{cancel_rule_of}
 use Rattle.irp_script_reader.specs.Forms.{slots_of as script_slots}
 use Rattle.irp_script_reader.specs.Plans.{has_major, is_driver, is_handler}
 use Rattle.irp_script_reader.specs.Sound.{IsSound, known_of}
-use Rattle.irp_script_reader.specs.declared.script.ScriptForm.{ScriptForm}
-use Rattle.irp_script_reader.specs.declared.script.ScriptForm.TheVariants.{One, Two, Three}
 use Rattle.irp_script_reader.specs.declared.script.ScriptParts.{ScriptParts}
-use Rattle.irp_machine.specs.Headers.{AreSorted, IsHeaderOf, IsSorted, form_of}
+use Rattle.irp_steps.proofs.Slots.{slots_same}
+use Rattle.irp_machine.specs.Headers.{AreSorted, IsHeaderOf, IsSorted}
 
 same_within : (known : Known) → IsWithin known known
 same_within known = record {
@@ -30,11 +29,6 @@ same_within known = record {
   free = omega arith;
   cancel = omega arith;
 }
-
-same_slots : (form : ScriptForm) → slots_of (form_of form) ≡ script_slots form
-same_slots One = refl
-same_slots (Two slots) = refl
-same_slots (Three slots) = refl
 
 -- ---- drivers
 
@@ -77,7 +71,7 @@ header_accepted script header sound is =
     let tables = (fixed_of header).tables in
     let many : length header.dispatches ≡ length script.dispatches = ap length is.dispatches ∙ length-replicate (length script.dispatches) (known_of script) in
     let long = sorted_long script.drivers header.drivers is.drivers in
-    let slots : slots_of header.form ≡ script_slots script.form = ap slots_of is.form ∙ same_slots script.form in
+    let slots : slots_of header.form ≡ script_slots script.form = ap slots_of is.form ∙ slots_same script.form in
     let all : All (λ driver. is_driver (length tables.dispatches) driver ≡ true) script.drivers =
     subst (λ count. All (λ driver. is_driver count driver ≡ true) script.drivers) (sym many) sound.drivers in
     let locks = is.locks in

@@ -4,20 +4,11 @@ use Rattle.std.specs.List.{IsDistinct}
 use Rattle.std.specs.List.Sorted.{IsStrictlyIncreasing}
 use Rattle.irp_types.specs.State.{Entrance}
 use Rattle.irp_transcript.specs.Headers.{majors}
-use Rattle.irp_transcript.specs.declared.header.Form.{Form}
-use Rattle.irp_transcript.specs.declared.header.Form.TheVariants as form
 use Rattle.irp_transcript.specs.declared.header.Header.{Header}
 use Rattle.irp_steps.specs.Behaviours.{cancel_rule_of}
+use Rattle.irp_steps.specs.Forms.{form_of}
 use Rattle.irp_script_reader.specs.Sound.{known_of}
-use Rattle.irp_script_reader.specs.declared.script.ScriptForm.{ScriptForm}
-use Rattle.irp_script_reader.specs.declared.script.ScriptForm.TheVariants as script
 use Rattle.irp_script_reader.specs.declared.script.ScriptParts.{ScriptParts}
-
--- the form of a script's transcripts: those of form 3 have form 2
-abbrev pub form_of : ScriptForm → Form
-form_of script.One = form.One
-form_of (script.Two slots) = form.Two slots
-form_of (script.Three slots) = form.Two slots
 
 -- no major function code stands twice
 abbrev pub AreMajorsApart : List Entrance → Type 0

@@ -5,11 +5,11 @@ ghost use Rattle.irp_types.specs.Rules.{IsWithin};
 ghost use Rattle.irp_types.specs.State.{most_known, no_routines};
 ghost use Rattle.irp_steps.specs.Behaviours.{cancel_rule_of};
 ghost use Rattle.irp_script_reader.specs.Sound.{IsSound, with_one, with_all};
-ghost use Rattle.irp_machine.specs.Headers.{AreMajorsApart, AreSorted, IsHeaderOf, IsSorted, form_of};
+ghost use Rattle.irp_machine.specs.Headers.{AreMajorsApart, AreSorted, IsHeaderOf, IsSorted};
 
-use irp_script_reader::{CompletionRoutine, ScriptForm, ScriptParts};
-use irp_steps::cancel_rule;
-use irp_transcript::{Form, Header};
+use irp_script_reader::{CompletionRoutine, ScriptParts};
+use irp_steps::{cancel_rule, form_of};
+use irp_transcript::Header;
 use irp_types::{CancelAnswer, CancelRule, DispatchId, Known, Row, Rule};
 use std::alloc::{AllocError, Global};
 
@@ -95,17 +95,6 @@ fn drivers_of(
         sorted.push(driver_of(alloc, driver.as_slice())?)?;
     }
     Ok(sorted)
-}
-
-/// The form of a script's transcripts: those of form 3 have form 2.
-fn form_of(form: ScriptForm) -> Form
-    ensures { result ≡ form_of form }
-{
-    match form {
-        ScriptForm::One => Form::One,
-        ScriptForm::Two { slots } => Form::Two { slots },
-        ScriptForm::Three { slots } => Form::Two { slots },
-    }
 }
 
 /// The header of a script's transcripts.

@@ -120,7 +120,7 @@ impl<K: Keep> ManagerState<K> {
             None => Reply::Refused(Refusal::NoIrp),
             Some(live) => match packets::packet_refusal(live, irp) {
                 Some(refusal) => Reply::Refused(refusal),
-                None => Reply::Seen(packets::seen(&live.packet)),
+                None => Reply::Seen(live.packet.seen()),
             },
         }
     }

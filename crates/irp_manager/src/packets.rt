@@ -9,7 +9,6 @@ ghost use Rattle.irp_types.specs.Stacks.{stack_size_of};
 ghost use Rattle.irp_types.specs.Refusals.{is_owner, is_wrong_target, leave_refusal, routine_refusal, cancel_refusal};
 ghost use Rattle.irp_types.specs.Refusals.{send_refusal, complete_refusal, take_refusal};
 ghost use Rattle.irp_types.specs.Descent.{StaysUp};
-ghost use Rattle.irp_types.specs.Steps.{seen_of};
 ghost use Rattle.irp_types.specs.Standing.{IsSound};
 ghost use Rattle.irp_types.specs.declared.status.Status.{Status};
 ghost use Rattle.irp_types.specs.declared.reply.Reply.TheVariants.{Status as StatusIs};
@@ -26,8 +25,8 @@ use irp_routines::Ask;
 use irp_stack::Stacks;
 use irp_types::limits::LAST_MAJOR;
 use irp_types::{
-    Asked, CancelId, DeviceId, IrpRef, Known, Owner, Party, Preparation, Refusal, Reply, Seen,
-    Setting, Status,
+    Asked, CancelId, DeviceId, IrpRef, Known, Owner, Party, Preparation, Refusal, Reply, Setting,
+    Status,
 };
 use irp_unwind::{descend, unwind};
 
@@ -465,26 +464,4 @@ pub fn finish_taken<A: Ask>(
     live.packet.set_status(status, information);
     let _ending = unwind(&mut live.packet, irp, ask, asked);
     Reply::Done
-}
-
-/// What Look shows of the packet.
-pub fn seen(packet: &Packet) -> Seen
-    ensures { result ≡ seen_of packet.now }
-{
-    let current = packet.current();
-    let marked = if current > packet.size() {
-        false
-    } else {
-        packet.location_at(current).pending
-    };
-    Seen {
-        owner: packet.owner(),
-        current,
-        status: packet.status(),
-        information: packet.information(),
-        cancel: packet.cancel(),
-        cancel_routine: packet.cancel_routine(),
-        pending_returned: packet.pending_returned(),
-        marked,
-    }
 }

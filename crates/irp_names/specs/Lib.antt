@@ -1,3 +1,4 @@
+pub mod Acts
 pub mod Calls
 pub mod Closures
 pub mod Majors

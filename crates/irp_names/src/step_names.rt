@@ -137,7 +137,8 @@ macro_rules! each_act {
             FinishTaken "finish_taken" "IoCompleteRequest" "FinishTaken"
                 "NoIrp, Stale, Ended, NotSlotHeld, BadStatus" "the call answers done"
                 FormTwo ["irp" Packet "slot" Slot "status" Status "information" Information]
-                ["do" Any "information" Information "irp" Packet "status" Status "token" Token] ["do" Any "reply" WordReply "seat" Seat "slot" Slot "step" Step];
+                ["do" Any "information" Information "irp" Packet "status" Status "token" Token]
+                ["do" Any "reply" WordReply "seat" Seat "slot" Slot "step" Step];
         }
     };
 }

@@ -4,7 +4,7 @@ use Rattle.std.specs.Prelude.{if◌then◌else◌, slice_get, Vec}
 use Rattle.std.proofs.lemmas.List.{length-set}
 use Rattle.std.proofs.lemmas.Option.{slice_get_within, slice_get-map, get_or_from_slice_get, slice_get-get_or}
 use Rattle.std.proofs.lemmas.List.{append-nil, reverse-append, reverse-reverse}
-use Rattle.std.proofs.lemmas.List.Elements.{All-push}
+use Rattle.std.proofs.lemmas.List.Elements.{All-push, All-weaker}
 use Rattle.std.proofs.lemmas.List.Sorted.{Contains-permutation, IsPermutation-sym}
 use Rattle.std.specs.List.Sorted.{IsPermutation}
 use Rattle.std.specs.Option.{IsSomeAnd, option_map}
@@ -110,20 +110,10 @@ get_last (one ∷ rows) found other (suc number) is = by (get_last rows found ot
   by (inl is) = inl is
   by (inr is) = inr (ap suc is.0, is.1)
 
-all_more : (P : ℕ → Type 0) (numbers : List ℕ) (number : ℕ) → All P numbers → P number → All P (numbers ++ number ∷ [])
-all_more P [] number all here zero d less = here
-all_more P [] number all here (suc k) d less = absurd (omega (arith, less))
-all_more P (one ∷ numbers) number all here zero d less = all 0 d (omega arith)
-all_more P (one ∷ numbers) number all here (suc k) d less =
-    all_more P numbers number (λ k d within. all (suc k) d (omega (arith, within))) here k d (omega (arith, less))
-
 long_more : (founds : List Found) (numbers : List ℕ) (found : Found) (number : ℕ) → length numbers ≡ length founds
     → length (numbers ++ number ∷ []) ≡ length (founds ++ found ∷ [])
 long_more founds numbers found number same =
     length-append numbers (number ∷ []) ∙ ap (λ n. n + 1) same ∙ sym (length-append founds (found ∷ []))
-
-weaker : (numbers : List ℕ) (bound more : ℕ) → bound ≤ more → All (λ number. number < bound) numbers → All (λ number. number < more) numbers
-weaker numbers bound more less all k d within = let low = all k d within in omega (arith, low, less)
 
 -- one more outcome in a group
 grouped_in : (founds rows : List Found) (found : Found) (numbers : List ℕ) (number : ℕ) (row : Found) → AreGroupedBy founds rows numbers
@@ -133,7 +123,7 @@ grouped_in founds rows found numbers number row grouped stands alike = record {
   each = long_more founds numbers found number grouped.each;
   within =
       subst (λ long. All (λ number. number < long) (numbers ++ number ∷ [])) (sym (length-set rows number (joined_row row found)))
-      (all_more (λ number. number < length rows) numbers number grouped.within (slice_get_within rows number row stands));
+      (All-push (λ number. number < length rows) numbers number grouped.within (slice_get_within rows number row stands));
   groups = λ k other is. by k other is (number == k) refl;
 }
   where
@@ -164,7 +154,8 @@ grouped_last founds rows found numbers grouped own = record {
   each = long_more founds numbers found (length rows) grouped.each;
   within =
       subst (λ long. All (λ number. number < long) (numbers ++ length rows ∷ [])) (sym (length-append rows (found ∷ [])))
-      (all_more (λ number. number < length rows + 1) numbers (length rows) (weaker numbers (length rows) (length rows + 1) (omega arith) grouped.within) (omega arith));
+      (All-push (λ number. number < length rows + 1) numbers (length rows)
+      (All-weaker (λ number. number < length rows) (λ number. number < length rows + 1) (λ number low. omega (arith, low)) numbers grouped.within) (omega arith));
   groups = λ k other is. by k other (get_last rows found other k is);
 }
   where
@@ -228,21 +219,9 @@ grouped_all all done rest rows are none grouped =
     let same : all ≡ done = are ∙ ap (λ (founds : List Found). done ++ reverse founds) none ∙ append-nil done in
     subst (λ (all : List Found). AreGrouped all rows) (sym same) grouped
 
-pub own_more : (founds : List Found) (found : Found) → All IsOwn founds → IsOwn found → All IsOwn (founds ++ found ∷ [])
-own_more [] found all own zero d less = own
-own_more [] found all own (suc k) d less = absurd (omega (arith, less))
-own_more (one ∷ founds) found all own zero d less = all 0 d (omega arith)
-own_more (one ∷ founds) found all own (suc k) d less =
-    own_more founds found (λ k d within. all (suc k) d (omega (arith, within))) own k d (omega (arith, less))
-
 pub alike_at : (rows : List Found) (number : ℕ) (row found : Found) → slice_get rows number ≡ Some row
     → IsSomeAnd (slice_get rows number) (λ row. AreAlike row found) → AreAlike row found
 alike_at rows number row found is alike = subst (λ (one : Option Found). IsSomeAnd one (λ row. AreAlike row found)) is alike
-
-pub alike_there : (rows : List Found) (number : ℕ) (some found : Found) → number < length rows → AreAlike (get_or rows number some) found
-    → IsSomeAnd (slice_get rows number) (λ row. AreAlike row found)
-alike_there rows number some found low alike =
-    subst (λ (one : Option Found). IsSomeAnd one (λ row. AreAlike row found)) (sym (slice_get-get_or rows number some low)) alike
 
 -- ---- which outcome a row shows
 

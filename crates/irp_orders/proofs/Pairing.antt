@@ -18,12 +18,6 @@ zip_next {A} {B} R xs ys place x y low other all here =
     (subst (λ (others : List B). AllZip R (take place xs ++ get_or xs place x ∷ []) others) (sym (take_more ys place y other))
     (all_zipped_more R (take place xs) (take place ys) (get_or xs place x) (get_or ys place y) all here))
 
-pub zip_whole : {A B : Type 0} (R : A → B → Type 0) (xs : List A) (ys : List B) (place : ℕ) → length xs ≤ place → length ys ≤ place
-    → AllZip R (take place xs) (take place ys) → AllZip R xs ys
-zip_whole {A} {B} R xs ys place long other all =
-    subst (λ (ones : List A). AllZip R ones ys) (take_all place xs long)
-    (subst (λ (others : List B). AllZip R (take place xs) others) (take_all place ys other) all)
-
 pub zip_weaker : {A B : Type 0} (R Q : A → B → Type 0) (xs : List A) (ys : List B) → ((x : A) (y : B) → R x y → Q x y)
     → AllZip R xs ys → AllZip Q xs ys
 zip_weaker R Q [] [] weaker all = all

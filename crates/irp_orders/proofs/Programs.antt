@@ -115,40 +115,6 @@ told_judges script order text founds ending are told =
     subst (λ (ending : Ending). Judges script order text ending) (sym told.judged.ends)
     (judged_by script order text founds told.condition told.judged.shown are told.says told.judged.verdict)
 
-pub unexplored_judges : (script : ScriptParts) (order : Order) (text : List ℕ) (ending : Ending)
-    → IsUnexplored script order ending → Judges script order text ending
-unexplored_judges script order text ending.Done un = absurd un
-unexplored_judges script order text (ending.RefusedScript refusal) un = absurd un
-unexplored_judges script order text (ending.FaultyWords lines) un = absurd un
-unexplored_judges script order text ending.Differs un = absurd un
-unexplored_judges script order text ending.Broken un = absurd un
-unexplored_judges script order text ending.NoMemory un = tt
-unexplored_judges script order text (ending.Met bound) un = un
-unexplored_judges script order text ending.NoOrder un = absurd un
-unexplored_judges script order text ending.OtherWords un = absurd un
-unexplored_judges script order text ending.NotBesideRight un = absurd un
-unexplored_judges script order text (ending.RefusedCondition fault) un = absurd un
-unexplored_judges script order text (ending.NoOutcome count) un = absurd un
-unexplored_judges script order text (ending.NoFile name reason) un = absurd un
-unexplored_judges script order text ending.Failed un = absurd un
-
-pub unjudged_judges : (script : ScriptParts) (order : Order) (text : List ℕ) (ending : Ending)
-    → IsUnjudged script (tells order) text ending → Judges script order text ending
-unjudged_judges script order text ending.Done un = absurd un
-unjudged_judges script order text (ending.RefusedScript refusal) un = absurd un
-unjudged_judges script order text (ending.FaultyWords lines) un = absurd un
-unjudged_judges script order text ending.Differs un = absurd un
-unjudged_judges script order text ending.Broken un = absurd un
-unjudged_judges script order text ending.NoMemory un = tt
-unjudged_judges script order text (ending.Met bound) un = absurd un
-unjudged_judges script order text ending.NoOrder un = tt
-unjudged_judges script order text ending.OtherWords un = absurd un
-unjudged_judges script order text ending.NotBesideRight un = absurd un
-unjudged_judges script order text (ending.RefusedCondition fault) un = un
-unjudged_judges script order text (ending.NoOutcome count) un = absurd un
-unjudged_judges script order text (ending.NoFile name reason) un = absurd un
-unjudged_judges script order text ending.Failed un = absurd un
-
 -- ---- the whole
 
 pub unheard_up : (fault : StreamFault) → IsGivenUp (of_unheard fault)

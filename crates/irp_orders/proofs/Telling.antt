@@ -45,32 +45,9 @@ not_both test one other = grind arith
 -- ---- a step was refused
 
 refused_so : (answer : Answered) (step : ℕ) → is_wrong (fact.Reply step) (told_value (seen_of answer)) ≡ is_refused answer
-refused_so (answered.Reply reply.Done) step = refl
-refused_so (answered.Reply (reply.Device device)) step = refl
-refused_so (answered.Reply (reply.Irp irp)) step = refl
-refused_so (answered.Reply (reply.Status status)) step = refl
 refused_so (answered.Reply (reply.Previous None)) step = refl
-refused_so (answered.Reply (reply.Previous (Some cancel))) step = refl
-refused_so (answered.Reply (reply.Cancelled was_set)) step = refl
-refused_so (answered.Reply (reply.Seen seen)) step = refl
-refused_so (answered.Reply (reply.Refused refusal)) step = refl
-refused_so (answered.Word word.Acquired) step = refl
-refused_so (answered.Word word.DeletePending) step = refl
-refused_so (answered.Word word.Done) step = refl
-refused_so (answered.Word word.SeatFull) step = refl
-refused_so (answered.Word word.NotHeld) step = refl
-refused_so (answered.Word word.AlreadyRemoving) step = refl
-refused_so (answered.Word word.NoLock) step = refl
-refused_so (answered.Word word.Yes) step = refl
 refused_so (answered.Word (word.Busy word)) step = refl
-refused_so (answered.Word word.Standing) step = refl
-refused_so (answered.Word (word.Taken use_no)) step = refl
-refused_so (answered.Word word.Lost) step = refl
-refused_so (answered.Word word.Nothing) step = refl
-refused_so (answered.Word word.Used) step = refl
-refused_so (answered.Word word.NotStanding) step = refl
-refused_so (answered.Word word.NoSlot) step = refl
-refused_so (answered.Word word.NoToken) step = refl
+refused_so other step = refl
 
 reply_wrong : (answers : List (Option Answered)) (step : ℕ) (found : Option (Option Answered)) → slice_get answers step ≡ found
     → All IsAccepted answers → is_wrong (fact.Reply step) (reply_value (option_map (option_map seen_of) found)) ≡ true → ⊥
@@ -82,9 +59,8 @@ reply_wrong answers step (Some (Some answer)) is all wrong =
 -- ---- a device has a packet
 
 owned_so : (owner : Owner) (label : ℕ) → is_wrong (fact.Owner label) (value.Owner owner) ≡ is_device owner
-owned_so owner.Originator label = refl
-owned_so owner.Ended label = refl
 owned_so (owner.Device device) label = refl
+owned_so other label = refl
 
 live_wrong : (packets : List LiveEnd) (irp : IrpRef) (label : ℕ) (found : Option LiveEnd) → find (names irp) packets ≡ found
     → All IsBack packets
@@ -126,34 +102,17 @@ fact_wrong steps setup end (fact.Held lock) wrong right =
     held_wrong end.locks lock (slice_get end.locks lock) refl right.released
     (subst (λ (found : _). is_wrong (fact.Held lock) (held_value found) ≡ true)
     (slice_get-map (λ (lock : LockEnd). lock.word) end.locks lock) wrong)
-fact_wrong steps setup end (fact.Made step) wrong right = cc
-fact_wrong steps setup end (fact.Status label) wrong right = cc
-fact_wrong steps setup end (fact.Information label) wrong right = cc
-fact_wrong steps setup end (fact.Current label) wrong right = cc
-fact_wrong steps setup end (fact.Cancel label) wrong right = cc
-fact_wrong steps setup end (fact.Live label) wrong right = cc
-fact_wrong steps setup end (fact.Deleted device) wrong right = cc
-fact_wrong steps setup end (fact.Removing lock) wrong right = cc
+fact_wrong steps setup end other wrong right = cc
 
 -- such a condition is met here, and by no right end
 pub wrong_met : (steps : List Step) (end : End) (condition : Condition) → IsOfWrong (facts_of steps end) (formula_of condition)
     → Meets steps condition end × TellsWrong steps condition
-wrong_met steps end (Or' p left q right) of_wrong = absurd of_wrong
-wrong_met steps end (And' p left q right) of_wrong = absurd of_wrong
-wrong_met steps end (Not' p inner) of_wrong = absurd of_wrong
-wrong_met steps end (Is term) of_wrong = absurd of_wrong
-wrong_met steps end (Compare (term.Constant left) by right) of_wrong = absurd of_wrong
-wrong_met steps end (Compare (term.Fact fact) Equal (term.Fact other)) of_wrong = absurd of_wrong
-wrong_met steps end (Compare (term.Fact fact) Other right) of_wrong = absurd of_wrong
-wrong_met steps end (Compare (term.Fact fact) Below right) of_wrong = absurd of_wrong
-wrong_met steps end (Compare (term.Fact fact) AtMost right) of_wrong = absurd of_wrong
-wrong_met steps end (Compare (term.Fact fact) Above right) of_wrong = absurd of_wrong
-wrong_met steps end (Compare (term.Fact fact) AtLeast right) of_wrong = absurd of_wrong
 wrong_met steps end (Compare (term.Fact fact) Equal (term.Constant value)) of_wrong = (
   of_wrong.1,
   λ setup other met.
       fact_wrong steps setup other fact (ap (is_wrong fact) met ∙ of_wrong.0),
 )
+wrong_met steps end other of_wrong = absurd of_wrong
 
 -- a text that says such a condition of these facts
 such_said : (script : ScriptParts) (end : End) (scope : Scope) (text : List ℕ) → IsScopeOf script true scope

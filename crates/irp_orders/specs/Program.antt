@@ -36,20 +36,24 @@ use Rattle.irp_orders.specs.declared.ending.Ending.TheVariants.{
   Failed,
 }
 
--- ---- judging
+-- the program gives up: the input or the output failed, or memory ran out
+abbrev pub IsGivenUp : Ending → Type 0
+IsGivenUp Failed = ⊤
+IsGivenUp NoMemory = ⊤
+IsGivenUp other = ⊥
 
--- why nothing is told of a condition: its text says none, memory ran out, or the order that breaks it isn't made again
-abbrev pub IsUnjudged : ScriptParts → Bool → List ℕ → Ending → Type 0
-IsUnjudged script tells text (RefusedCondition fault) = SaysNothing script tells text
-IsUnjudged script tells text NoMemory = ⊤
-IsUnjudged script tells text NoOrder = ⊤
-IsUnjudged script tells text other = ⊥
+-- ---- judging
 
 -- why a text isn't read as a condition: it says none, or memory ran out
 abbrev pub IsUnread : ScriptParts → Bool → List ℕ → Ending → Type 0
 IsUnread script tells text (RefusedCondition fault) = SaysNothing script tells text
 IsUnread script tells text NoMemory = ⊤
 IsUnread script tells text other = ⊥
+
+-- why nothing is told of a condition: it isn't read, or the order that breaks it isn't made again
+abbrev pub IsUnjudged : ScriptParts → Bool → List ℕ → Ending → Type 0
+IsUnjudged script tells text NoOrder = ⊤
+IsUnjudged script tells text other = IsUnread script tells text other
 
 -- these are the outcomes of a script's orders, and a text says this condition of the script
 pub record IsAsked (script : ScriptParts) (order : Order) (text : List ℕ) (outcomes : List Outcome) (condition : Condition)
@@ -76,11 +80,8 @@ abbrev pub Judges : ScriptParts → Order → List ℕ → Ending → Type 0
 Judges script order text Done = IsKept script order text
 Judges script order text Broken = IsBroken script order text
 Judges script order text (Met bound) = MeetsBound script order bound
-Judges script order text (RefusedCondition fault) = SaysNothing script (tells order) text
-Judges script order text NoMemory = ⊤
-Judges script order text NoOrder = ⊤
 Judges script order text Failed = ⊤
-Judges script order text other = ⊥
+Judges script order text other = IsUnjudged script (tells order) text other
 
 -- ---- what is right
 
@@ -105,31 +106,27 @@ IsOneWrong script =
 abbrev pub with_replies : Order → Order
 with_replies order = record order { by_ends = false }
 
--- how the program ends that was asked whether every order ends right: Done, with status 0, only where each does; Broken,
--- with 2, only where one doesn't; Met, with 3, only where the orders meet this bound
-abbrev pub Examines : ScriptParts → Order → Ending → Type 0
-Examines script order Done = AreAllRight script
-Examines script order Broken = IsOneWrong script
-Examines script order (Met bound) = MeetsBound script (with_replies order) bound
-Examines script order NoMemory = ⊤
-Examines script order NoOrder = ⊤
-Examines script order Failed = ⊤
-Examines script order other = ⊥
-
 -- why it isn't told whether outcomes are right: memory ran out, or an order isn't made again
 abbrev pub IsUnexamined : Ending → Type 0
 IsUnexamined NoMemory = ⊤
 IsUnexamined NoOrder = ⊤
 IsUnexamined other = ⊥
 
+-- how the program ends that was asked whether every order ends right: Done, with status 0, only where each does; Broken,
+-- with 2, only where one doesn't; Met, with 3, only where the orders meet this bound
+abbrev pub Examines : ScriptParts → Order → Ending → Type 0
+Examines script order Done = AreAllRight script
+Examines script order Broken = IsOneWrong script
+Examines script order (Met bound) = MeetsBound script (with_replies order) bound
+Examines script order Failed = ⊤
+Examines script order other = IsUnexamined other
+
 -- ---- rows
 
 -- a transcript was put whole behind what had gone out, or it isn't written whole
 abbrev pub Writes : TranscriptValue → Option (List ℕ) → Option (List ℕ) → Ending → Type 0
 Writes transcript old new Done = Appends old new (text_of (lines transcript))
-Writes transcript old new Failed = ⊤
-Writes transcript old new NoMemory = ⊤
-Writes transcript old new other = ⊥
+Writes transcript old new other = IsGivenUp other
 
 -- this transcript shows the row of this number, counted from 1: it makes the order again that the row's outcome keeps,
 -- with a legal history, and ends as that outcome
@@ -152,9 +149,7 @@ pub record IsBeyond (script : ScriptParts) (order : Order) (number count : ℕ) 
 -- why no row of this number is shown: there is none, a bound is met, or memory ran out
 abbrev pub IsUnshown : ScriptParts → Order → ℕ → Ending → Type 0
 IsUnshown script order number (NoOutcome count) = IsBeyond script order number count
-IsUnshown script order number (Met bound) = MeetsBound script order bound
-IsUnshown script order number NoMemory = ⊤
-IsUnshown script order number other = ⊥
+IsUnshown script order number other = IsUnexplored script order other
 
 -- how the program ends that was asked to show a row: Done only where the transcript that shows it was put behind what
 -- had gone out
@@ -173,15 +168,9 @@ Tables script order other = IsUnexplored script order other
 
 -- ---- answering
 
--- a text isn't written whole
-abbrev pub IsUnwritten : Ending → Type 0
-IsUnwritten Failed = ⊤
-IsUnwritten NoMemory = ⊤
-IsUnwritten other = ⊥
-
 -- the program ends as it was to, unless a text isn't written whole
 abbrev pub IsSent : Ending → Ending → Type 0
-IsSent wanted ending = (ending ≡ wanted) ⊎ IsUnwritten ending
+IsSent wanted ending = (ending ≡ wanted) ⊎ IsGivenUp ending
 
 -- what is answered by what is asked; then this has gone out, where that is known
 abbrev pub Answers : ScriptParts → Order → Task → Option (List ℕ) → Option (List ℕ) → Ending → Type 0
@@ -191,12 +180,6 @@ Answers script order Right old new ending = Examines script order ending
 Answers script order Table old new ending = Tables script order ending
 
 -- ---- the whole
-
--- the program gives up
-abbrev pub IsGivenUp : Ending → Type 0
-IsGivenUp Failed = ⊤
-IsGivenUp NoMemory = ⊤
-IsGivenUp other = ⊥
 
 -- as many bytes as are taken of the input at most, since one too many shows that a script is too long
 abbrev pub most_taken : ℕ

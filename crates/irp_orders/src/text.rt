@@ -1,6 +1,7 @@
 //! Text that grows line by line.
 
 use irp_listing::put_line;
+use irp_names::Sink;
 use std::alloc::{AllocError, Global};
 use std::fmt;
 
@@ -8,10 +9,8 @@ use std::fmt;
 #[derive(Drop)]
 pub struct Text {
     lines: Vec<u8>,
-    /// The line that isn't ended yet.
-    line: String,
-    /// Whether memory ran out.
-    ran_out: bool,
+    /// The line that isn't ended yet; it remembers that memory ran out.
+    line: Sink,
 }
 
 impl Text {
@@ -19,39 +18,32 @@ impl Text {
     pub fn new(alloc: Global) -> Text {
         Text {
             lines: Vec::new(alloc),
-            line: String::new(alloc),
-            ran_out: false,
+            line: Sink::new(alloc),
         }
     }
 
     /// Puts words.
     pub fn put(&mut self, words: &str) {
-        if !self.ran_out && self.line.push_str(words).is_err() {
-            self.ran_out = true;
-        }
+        self.line.put(words);
     }
 
     /// Puts words, and what is displayed behind them.
     pub fn tell<D: fmt::Display + Drop>(&mut self, words: &str, shown: D) {
         self.put(words);
-        if !self.ran_out && self.line.write_fmt(shown).is_err() {
-            self.ran_out = true;
-        }
+        self.line.show(shown);
     }
 
     /// Ends the line, in which each newline becomes a space.
     pub fn end(&mut self) {
-        if !self.ran_out && put_line(&mut self.lines, self.line.as_str()).is_err() {
-            self.ran_out = true;
+        if put_line(&mut self.lines, self.line.words()).is_err() {
+            self.line.run_out();
         }
         self.line.clear();
     }
 
     /// The lines that were ended. The one error is that memory ran out.
     pub fn finish(self) -> Result<Vec<u8>, AllocError> {
-        if self.ran_out {
-            return Err(AllocError);
-        }
+        self.line.finish()?;
         Ok(self.lines)
     }
 }

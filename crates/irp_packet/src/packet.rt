@@ -10,11 +10,12 @@ ghost use Rattle.irp_types.specs.Packet.{size_of, cleared, location_at, found_lo
 ghost use Rattle.irp_types.specs.Packet.{set_next_refusal, copy_to_next_refusal, skip_refusal, set_routine_refusal};
 ghost use Rattle.irp_types.specs.Packet.{mark_pending_refusal, after_set_next, after_copy, after_skip};
 ghost use Rattle.irp_types.specs.Packet.{after_set_routine, after_mark};
+ghost use Rattle.irp_types.specs.Steps.{seen_of};
 ghost use Rattle.irp_types.specs.declared.refusal.Refusal.TheVariants.{BadSize};
 
 use arrayvec::ArrayVec;
 use irp_types::limits::LAST_MAJOR;
-use irp_types::{CancelId, Location, Owner, Preparation, Refusal, Setting, Status};
+use irp_types::{CancelId, Location, Owner, Preparation, Refusal, Seen, Setting, Status};
 use std::alloc::Global;
 use std::marker::Model;
 
@@ -238,6 +239,23 @@ impl Packet {
         ensures { result ≡ location_at self.now number }
     {
         self.locations[number as usize - 1]
+    }
+
+    /// What Look shows of it.
+    pub fn seen(&self) -> Seen
+        ensures { result ≡ seen_of self.now }
+    {
+        let current = self.current();
+        Seen {
+            owner: self.owner(),
+            current,
+            status: self.status(),
+            information: self.information(),
+            cancel: self.cancel(),
+            cancel_routine: self.cancel_routine(),
+            pending_returned: self.pending_returned(),
+            marked: current <= self.size() && self.location_at(current).pending,
+        }
     }
 }
 

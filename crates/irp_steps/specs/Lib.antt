@@ -1,4 +1,5 @@
 pub mod Behaviours
 pub mod Conditions
+pub mod Forms
 pub mod Labels
 pub mod StepKinds

@@ -2,7 +2,6 @@
 use Rattle.std.proofs.Common.{◌≡◌, ◌⊎◌, ℕ, ◌<◌, ◌≤◌, List, [], ◌∷◌, ◌++◌, length, take, drop, is_some, Bool, true, false, Option, Some, None, inl, inr, refl, sym, subst, ap, ◌∙◌, append_assoc, append-nil, arith}
 use mathlib.Core.Bool.{true≢false}
 use Rattle.std.proofs.lemmas.Grind.{common_steps}
-use Rattle.std.specs.List.{flat_map}
 use Rattle.irp_types.specs.declared.entry.Entry.{Entry}
 use Rattle.irp_types.specs.declared.names.IrpRef.{IrpRef}
 use Rattle.irp_transcript.specs.Transcripts.{TranscriptValue}
@@ -10,8 +9,7 @@ use Rattle.irp_transcript.specs.declared.header.Header.{Header}
 use Rattle.irp_transcript.specs.declared.word_line.WordLine.{WordLine}
 use Rattle.irp_transcript_reader.specs.Reading.{with_line}
 use Rattle.irp_transcript_reader.specs.declared.line.Line.TheVariants.{Entry as EntryLine, Word as WordOf}
-use Rattle.irp_listing.specs.Lines.{further_of}
-use Rattle.irp_listing.specs.Listing.{AddsChosen, AddsWordLine, IsListing, are_none, heading_above}
+use Rattle.irp_listing.specs.Listing.{AddsChosen, AddsWordLine, IsListing, are_none, heading_above, word_line_of}
 use Rattle.irp_listing.proofs.Chosen.{one_more}
 use Rattle.irp_listing.proofs.Worded.{one_more_word}
 use Rattle.irp_view.specs.Listed.{IsGathered}
@@ -20,18 +18,6 @@ use Rattle.irp_view.specs.declared.orders.Span.{Span}
 use Rattle.irp_view.specs.declared.showing.Shown.{Shown}
 
 -- ---- spans
-
-pub more_within : (from to : ℕ) (entries : List Entry) (entry : Entry) → from ≤ length entries → length entries < to
-    → drop from (take to (entries ++ entry ∷ [])) ≡ drop from (take to entries) ++ entry ∷ []
-more_within from to entries entry low high = grind (arith, common_steps)
-
-pub more_below : (from to : ℕ) (entries : List Entry) (entry : Entry) → length entries < from
-    → drop from (take to (entries ++ entry ∷ [])) ≡ drop from (take to entries)
-more_below from to entries entry low = grind (arith, common_steps)
-
-pub more_above : (from to : ℕ) (entries : List Entry) (entry : Entry) → to ≤ length entries
-    → drop from (take to (entries ++ entry ∷ [])) ≡ drop from (take to entries)
-more_above from to entries entry high = grind (arith, common_steps)
 
 -- ---- word lines
 
@@ -131,35 +117,25 @@ module _ (only : Option IrpRef) (span : Option Span) (old new : Shown) (sent : L
     };
   }
 
-  -- where all are shown
-  word_behind : AddsWordLine old.before_words old.text.items new.text.items → AddsWordLine (are_none before.words) (is.shows.listing ++ is.shows.words) (sent ++ new.text.items)
-  word_behind adds =
-      let heading : List ℕ = heading_above old.before_words in
-      let more : List ℕ = flat_map further_of adds.lines in
-      record {
-        lines = adds.lines;
-        many = adds.many;
-        put = ap (λ (given : List ℕ). sent ++ given) adds.put ∙ sym (append_assoc sent (old.text.items ++ heading) more)
-            ∙ ap (λ (given : List ℕ). given ++ more) (sym (append_assoc sent old.text.items heading))
-            ∙ ap (λ (given : List ℕ × Bool). (given.0 ++ heading_above given.1) ++ more) (λ i. (is.shows.whole i, is.before_words i));
-      }
-
+-- where all are shown
 pub word_gathered : (only : Option IrpRef) (span : Option Span) (old new : Shown) (sent : List ℕ) (before : TranscriptValue) (is : IsGathered only span old sent before) (word : WordLine)
-    → is_some only ≡ false → is_some span ≡ false → new.entries ≡ old.entries → new.before_words ≡ false → AddsWordLine old.before_words old.text.items new.text.items
+    → is_some only ≡ false → is_some span ≡ false → new.entries ≡ old.entries → new.before_words ≡ false → AddsWordLine old.before_words word old.text.items new.text.items
     → IsGathered only span new sent (with_line before (WordOf word))
 word_gathered (Some irp) span old new sent before is word one two entries words adds = absurd (true≢false one)
 word_gathered None (Some some) old new sent before is word one two entries words adds = absurd (true≢false two)
 word_gathered None None old new sent before is word one two entries words adds =
-    let more = one_more_word before.words word is.shows.listing is.shows.words (sent ++ new.text.items) is.shows.are_words (word_behind None None old new sent before is adds) in
+    let line : List ℕ = heading_above old.before_words ++ word_line_of word in
     record {
       counted = entries ∙ is.counted;
       before_words = words ∙ sym (some_word before.words word);
       shows = record {
         listing = is.shows.listing;
         is_listing = is.shows.is_listing;
-        words = more.text;
-        are_words = more.lines;
-        whole = more.whole;
+        words = is.shows.words ++ line;
+        are_words = ap (λ (given : List ℕ × Bool). given.0 ++ (heading_above given.1 ++ word_line_of word))
+            (λ i. (is.shows.are_words i, is.before_words i)) ∙ sym (one_more_word before.words word);
+        whole = ap (λ (given : List ℕ). sent ++ given) adds ∙ sym (append_assoc sent old.text.items line)
+            ∙ ap (λ (given : List ℕ). given ++ line) is.shows.whole ∙ append_assoc is.shows.listing is.shows.words line;
       };
     }
 

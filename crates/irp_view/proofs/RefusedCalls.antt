@@ -75,29 +75,7 @@ notes_refused before after entries entry refusal was is came count first =
 pub kept_full : (count : ℕ) (items more : List (ℕ × Refusal)) → length items ≡ count → items ≡ take count (items ++ more)
 kept_full count items more full = sym (take_at items more count full)
 
--- one more is kept behind fewer
-pub kept_more : (count : ℕ) (items : List (ℕ × Refusal)) (item : ℕ × Refusal) → length items < count → items ++ item ∷ [] ≡ take count (items ++ item ∷ [])
-kept_more count items item few = grind (arith, common_steps)
-
 -- ---- the line
-
--- no call is refused
-pub no_line : (refused : List (ℕ × Refusal)) → 0 ≡ length refused → refused_line refused ≡ []
-no_line [] none = refl
-no_line (first ∷ refused) none = absurd (cc (none))
-
--- some are
-pub a_line : (refused first : List (ℕ × Refusal)) (count : ℕ) (text : List ℕ) → (count ≡ 0 → ⊥) → count ≡ length refused → first ≡ take most_told refused
-    → text ≡ ((codes "refused calls: " ++ decimal count) ++ flat_map refused_text first) ++ more_text (count - most_told) → refused_line refused ≡ line_of text
-a_line [] first count text some counted kept is = absurd (some counted)
-a_line (call ∷ refused) first count text some counted kept is =
-    let all : List (ℕ × Refusal) = call ∷ refused in
-    ap line_of (sym (
-    is ∙ ap (λ (given : List (ℕ × Refusal)). ((codes "refused calls: " ++ decimal count) ++ flat_map refused_text given) ++ more_text (count - most_told)) kept
-    ∙ ap (λ (given : ℕ). ((codes "refused calls: " ++ decimal given) ++ flat_map refused_text (take most_told all)) ++ more_text (given - most_told)) counted
-    ∙ append_assoc (codes "refused calls: " ++ decimal (length all)) (flat_map refused_text (take most_told all)) (more_text (length all - most_told))
-    ∙ append_assoc (codes "refused calls: ") (decimal (length all)) (flat_map refused_text (take most_told all) ++ more_text (length all - most_told))
-    ))
 
 -- two facts about what went well
 pub on_ok_both : {T E P Q R : Type 0} (result : Result T E) → (P → Q → R) → OnOk result P → OnOk result Q → OnOk result R

@@ -34,23 +34,3 @@ all_rows entry wrong known x a b c d y head part given made rule = record {
       (behind a b y _ _ (known_row _ _ a b part)
       (behind b c y _ _ (known_row _ _ b c given) (behind c d y _ _ (known_row _ _ c d made) rule.put)));
 }
-
-pub why_told : (entry : Entry) (wrong : Wrong) (section : Section) (x a b y : List ℕ) → AddsRows entry wrong x a → AddsCause (cause_told wrong.difference wrong.cause) a b → IfSome (section_of wrong.difference) (λ known. section ≡ known) → AddsSection section b y → AddsWhy entry wrong x y
-why_told entry wrong section x a b y rows cause is see = record {
-  text = rows.rows ++ (why_row (cause_told wrong.difference wrong.cause) cause.words ++ see_row section);
-  is = record {
-    rows = rows.rows;
-    are = rows.are;
-    cause = cause.words;
-    section = section;
-    section_is = is;
-    whole = refl;
-  };
-  put = behind x a y _ _ rows.put (behind a b y _ _ cause.put see);
-}
-
-pub no_cause : (x : List ℕ) → AddsCause None x x
-no_cause x = record { words = []; put = sym (append-nil x) }
-
-pub a_cause : (cause : Cause) (known : Option (List ℕ)) (x y : List ℕ) → AddsRow spec.why known x y → AddsCause (Some cause) x y
-a_cause cause known x y row = record { words = row.words; put = row.put }

@@ -5,7 +5,7 @@ use Rattle.irp_types.specs.declared.names.IrpRef.{IrpRef}
 use Rattle.irp_transcript.specs.Transcripts.{TranscriptValue}
 use Rattle.irp_transcript.specs.declared.word_line.WordLine.{WordLine}
 use Rattle.irp_streams.specs.Streams.{Bytes}
-use Rattle.irp_listing.specs.Listing.{AreWordLines, IsListing}
+use Rattle.irp_listing.specs.Listing.{IsListing, word_lines_of}
 use Rattle.irp_streams.specs.Writing.{Written}
 use Rattle.irp_view.specs.declared.orders.Span.{Span}
 
@@ -21,7 +21,7 @@ with_wanted false entries entry = entries
 
 -- the text for word lines, where all entries are shown; nothing where some are chosen
 abbrev pub AreWordsFor : Option IrpRef → Option Span → List WordLine → List ℕ → Type 0
-AreWordsFor None None words text = AreWordLines words text
+AreWordsFor None None words text = text ≡ word_lines_of words
 AreWordsFor (Some irp) span words text = text ≡ []
 AreWordsFor None (Some span) words text = text ≡ []
 

@@ -1,5 +1,5 @@
 -- What the program prints of a text in words.
-use Rattle.std.specs.Prelude.{◌≡◌, ℕ, List, Option, Ok}
+use Rattle.std.specs.Prelude.{◌≡◌, ◌⊎◌, ℕ, List, Option, Ok}
 use Rattle.std.specs.Io.KnownBytes.{Appends}
 use Rattle.irp_script_reader.specs.Scripts.{ReadsScript}
 use Rattle.irp_script_reader.specs.declared.script.Script.{Script}
@@ -18,6 +18,10 @@ Prints ending before after = Unit {0}
 abbrev pub Fails : Ending → Type 0
 Fails Done = ⊥
 Fails ending = Unit {0}
+
+-- all of a text went out, and the program ends so; or the output failed
+abbrev pub IsSent : List ℕ → Ending → Option (List ℕ) → Option (List ℕ) → Ending → Type 0
+IsSent text wanted before after ending = ((ending ≡ wanted) × Appends before after text) ⊎ (ending ≡ Failed)
 
 -- what went out for the task of printing JSON
 abbrev pub Obeys : Task → Ending → Option (List ℕ) → Option (List ℕ) → Type 0

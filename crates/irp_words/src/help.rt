@@ -1,7 +1,8 @@
 //! The help.
 
 use crate::ending::Ending;
-use irp_streams::{Out, put_all};
+use crate::telling::send_text;
+use irp_streams::Out;
 
 /// What the help says.
 const HELP: &str = "\
@@ -35,8 +36,5 @@ Examples:
 
 /// Writes the help.
 pub fn help<O: Out>(output: &mut O) -> Ending {
-    match put_all(output, HELP.as_bytes()) {
-        Ok(()) => Ending::Done,
-        Err(_) => Ending::Failed,
-    }
+    send_text(output, HELP.as_bytes(), Ending::Done)
 }

@@ -4,11 +4,13 @@ ghost use Rattle.std.specs.Prelude.{IfOk};
 ghost use Rattle.irp_words.specs.Telling.{PrintsWhole};
 
 use crate::ending::Ending;
+use crate::telling::send_text;
 use irp_forms::HasName;
 use irp_names::{
-    Act, PlanKind, major_name, minor_name, mistake_name, refusal_meaning, rule_names, status_names,
+    Act, PlanKind, Sink, major_name, minor_name, mistake_name, refusal_meaning, rule_names,
+    status_names,
 };
-use irp_streams::{Out, put_all};
+use irp_streams::Out;
 use irp_types::Refusal;
 use irp_types::limits::LAST_MAJOR;
 use std::alloc::{AllocError, Global};
@@ -25,9 +27,7 @@ static REFUSED: [Act; 5] = [
 /// A text of JSON that is made.
 #[derive(Drop)]
 struct Json {
-    text: String,
-    /// Whether memory ran out.
-    ran_out: bool,
+    text: Sink,
     /// What stands before the next row of a table.
     comma: &'static str,
 }
@@ -35,16 +35,12 @@ struct Json {
 impl Json {
     /// Puts a text.
     fn put(&mut self, text: &str) {
-        if self.text.push_str(text).is_err() {
-            self.ran_out = true;
-        }
+        self.text.put(text);
     }
 
     /// Puts a name in quotation marks. No name here has a character that JSON writes otherwise.
     fn name(&mut self, name: &str) {
-        self.put("\"");
-        self.put(name);
-        self.put("\"");
+        self.text.quoted(name);
     }
 
     /// Puts a key and the name under it.
@@ -57,9 +53,8 @@ impl Json {
 
     /// Puts a number, in decimal.
     fn number(&mut self, before: &str, number: u32) {
-        if write!(&mut self.text, "{before}{number}").is_err() {
-            self.ran_out = true;
-        }
+        self.put(before);
+        self.text.number(u64::from(number));
     }
 
     /// Puts numbers and a name, as a row.
@@ -192,8 +187,7 @@ fn put_minors(json: &mut Json) {
 /// The text of all tables: an object with a list under each name.
 fn text_of_tables(alloc: Global) -> Result<String, AllocError> {
     let mut json = Json {
-        text: String::new(alloc),
-        ran_out: false,
+        text: Sink::new(alloc),
         comma: "",
     };
     json.begin("{\"acts\":[");
@@ -211,21 +205,15 @@ fn text_of_tables(alloc: Global) -> Result<String, AllocError> {
     json.begin("],\n\"minors\":[");
     put_minors(&mut json);
     json.put("]}\n");
-    if json.ran_out {
-        return Err(AllocError);
-    }
-    Ok(json.text)
+    json.text.finish()
 }
 
 /// Prints the tables.
 pub fn tell_tables<O: Out>(alloc: Global, output: &mut O) -> Ending
     ensures { PrintsWhole result (O.gone output.old) (O.gone output.new) }
 {
-    let Ok(text) = text_of_tables(alloc) else {
-        return Ending::NoMemory;
-    };
-    match put_all(output, text.as_bytes()) {
-        Ok(()) => Ending::Done,
-        Err(_) => Ending::Failed,
+    match text_of_tables(alloc) {
+        Ok(text) => send_text(output, text.as_bytes(), Ending::Done),
+        Err(_) => Ending::NoMemory,
     }
 }

@@ -2,23 +2,23 @@
 
 ghost use Rattle.std.specs.Prelude.{IfOk, Ok, string_bytes};
 ghost use Rattle.irp_script_reader.specs.Scripts.{ReadsScript};
-ghost use Rattle.irp_words.specs.Telling.{Fails, Prints};
+ghost use Rattle.irp_words.specs.Telling.{Fails, IsSent, Prints};
 
 use crate::ending::Ending;
 use irp_grammar::{Said, Told, Untold, fault_lines, json, read_lines, words};
 use irp_names::Sink;
-use irp_script_reader::{ScriptFault, read_script};
+use irp_script_reader::{Script, ScriptFault, read_script};
 use irp_streams::{Out, put_all};
-use irp_text_faults::{FaultMessage, Place, faults};
+use irp_text_faults::{Place, faults};
 use irp_warnings::{Warning, warnings};
 use std::alloc::{AllocError, Global};
 
-/// Puts out what is wrong with a script.
-fn put_faults<E: Out>(errors: &mut E, lines: &str) -> Ending
-    ensures { Fails result }
+/// Sends a text; then the program ends so.
+pub fn send_text<O: Out>(output: &mut O, text: &[u8], ending: Ending) -> Ending
+    ensures { IsSent text.now ending (O.gone output.old) (O.gone output.new) result }
 {
-    match put_all(errors, lines.as_bytes()) {
-        Ok(()) => Ending::Faulty,
+    match put_all(output, text) {
+        Ok(()) => ending,
         Err(_) => Ending::Failed,
     }
 }
@@ -37,7 +37,7 @@ fn tell_untold<E: Out>(alloc: Global, errors: &mut E, untold: Untold<'_>) -> End
 {
     match untold {
         Untold::Faults(faults) => match fault_lines(alloc, faults.as_slice()) {
-            Ok(lines) => put_faults(errors, lines.as_str()),
+            Ok(lines) => send_text(errors, lines.as_bytes(), Ending::Faulty),
             Err(_) => Ending::NoMemory,
         },
         Untold::Differs => Ending::Differs,
@@ -51,7 +51,7 @@ fn tell_refused<E: Out>(alloc: Global, errors: &mut E, fault: ScriptFault) -> En
         ScriptFault::Refused(refusal) => match format!(in alloc;
             "irp_words: script refused: {refusal}\n"
         ) {
-            Ok(line) => put_faults(errors, line.as_str()),
+            Ok(line) => send_text(errors, line.as_bytes(), Ending::Faulty),
             Err(_) => Ending::NoMemory,
         },
         ScriptFault::NoMemory => Ending::NoMemory,
@@ -68,10 +68,7 @@ pub fn tell_json<O: Out, E: Out>(
     ensures { Prints result (O.gone output.old) (O.gone output.new) }
 {
     match told_of(alloc, text) {
-        Ok(told) => match put_all(output, told.text.as_bytes()) {
-            Ok(()) => Ending::Done,
-            Err(_) => Ending::Failed,
-        },
+        Ok(told) => send_text(output, told.text.as_bytes(), Ending::Done),
         Err(untold) => tell_untold(alloc, errors, untold),
     }
 }
@@ -84,10 +81,7 @@ pub fn tell_words<O: Out, E: Out>(
     text: &[u8],
 ) -> Ending {
     match words(alloc, text) {
-        Ok(text) => match put_all(output, text.as_bytes()) {
-            Ok(()) => Ending::Done,
-            Err(_) => Ending::Failed,
-        },
+        Ok(text) => send_text(output, text.as_bytes(), Ending::Done),
         Err(fault) => tell_refused(alloc, errors, fault),
     }
 }
@@ -100,92 +94,62 @@ fn is_json(text: &[u8]) -> bool {
     }
 }
 
-/// Appends a line for each fault, and tells whether there is one.
-fn put_fault_lines(lines: &mut Sink, faults: &[FaultMessage]) -> bool {
-    for fault in faults {
-        fault.write(lines);
-        lines.put("\n");
-    }
-    !faults.is_empty()
-}
-
-/// Appends a line for each warning, and tells whether there is one.
-fn put_warning_lines(lines: &mut Sink, warnings: &[Warning]) -> bool {
-    for warning in warnings {
-        warning.write(lines);
-        lines.put("\n");
-    }
-    !warnings.is_empty()
-}
-
-/// `Warned` where there is a warning, else `Done`.
-fn warned_or_done(is_warned: bool) -> Ending {
-    if is_warned {
-        Ending::Warned
-    } else {
-        Ending::Done
-    }
-}
-
-/// Appends what is hardly meant in a script of JSON, and gives the ending: `Warned` where there is such.
-fn put_warnings(alloc: Global, lines: &mut Sink, text: &[u8]) -> Result<Ending, AllocError> {
-    let Ok(script) = read_script(alloc, text) else {
-        return Err(AllocError);
+/// The place of the step that a warning is of, in the words that say the JSON of which it was told, if any do.
+fn place_of(said: Option<&Said<'_>>, warning: &Warning) -> Place {
+    let Some(said) = said else {
+        return warning.place;
     };
-    let warnings = warnings(alloc, text, &script)?;
-    Ok(warned_or_done(put_warning_lines(lines, warnings.as_slice())))
-}
-
-/// Appends what is wrong with a script of JSON, or else what is hardly meant, and gives the ending.
-fn put_advice(alloc: Global, lines: &mut Sink, text: &[u8]) -> Result<Ending, AllocError> {
-    let faults = faults(alloc, text)?;
-    if put_fault_lines(lines, faults.as_slice()) {
-        Ok(Ending::Faulty)
-    } else {
-        put_warnings(alloc, lines, text)
-    }
-}
-
-/// The place in a text in words of the step that a warning is of. The warning was told of the JSON that the text says.
-fn place_in_words(said: &Said<'_>, warning: &Warning) -> Place {
     match said.line_and_column(warning.section, warning.index) {
         Some((line, column)) => Place { line, column },
         None => warning.place,
     }
 }
 
-/// Appends what is hardly meant in a script in words, each by its line there, and gives the ending: `Warned` where there
-/// is such.
-fn put_words_warnings(
+/// What is hardly meant in a script of JSON, which these words say, if any do: a line for each, and the ending, `Warned`
+/// where there is such. The one error is want of memory.
+fn advice(
     alloc: Global,
-    lines: &mut Sink,
-    said: &Said<'_>,
-    told: &Told,
-) -> Result<Ending, AllocError> {
-    let warnings = warnings(alloc, told.text.as_bytes(), &told.script)?;
+    text: &[u8],
+    script: &Script,
+    said: Option<&Said<'_>>,
+) -> Result<(String, Ending), AllocError> {
+    let warnings = warnings(alloc, text, script)?;
+    let mut lines = Sink::new(alloc);
     for warning in warnings.as_slice() {
-        warning.write_at(lines, place_in_words(said, warning));
+        warning.write_at(&mut lines, place_of(said, warning));
         lines.put("\n");
     }
-    Ok(warned_or_done(!warnings.is_empty()))
+    let ending = if warnings.is_empty() {
+        Ending::Done
+    } else {
+        Ending::Warned
+    };
+    Ok((lines.finish()?, ending))
+}
+
+/// What is wrong with a script of JSON, or else what is hardly meant. The one error is want of memory.
+fn json_advice(alloc: Global, text: &[u8]) -> Result<(String, Ending), AllocError> {
+    let faults = faults(alloc, text)?;
+    let mut lines = Sink::new(alloc);
+    for fault in faults.as_slice() {
+        fault.write(&mut lines);
+        lines.put("\n");
+    }
+    if !faults.is_empty() {
+        return Ok((lines.finish()?, Ending::Faulty));
+    }
+    match read_script(alloc, text) {
+        Ok(script) => advice(alloc, text, &script, None),
+        Err(_) => Err(AllocError),
+    }
 }
 
 /// Puts out the lines that were made, and gives the ending; want of memory where that kept them from being made.
-fn put_lines<O: Out>(output: &mut O, lines: Sink, ending: Result<Ending, AllocError>) -> Ending {
-    match (ending, lines.finish()) {
-        (Ok(ending), Ok(lines)) => match put_all(output, lines.as_bytes()) {
-            Ok(()) => ending,
-            Err(_) => Ending::Failed,
-        },
-        _ => Ending::NoMemory,
+fn put_lines<O: Out>(output: &mut O, made: Result<(String, Ending), AllocError>) -> Ending {
+    match made {
+        Ok((lines, ending)) => send_text(output, lines.as_bytes(), ending),
+        Err(_) => Ending::NoMemory,
     }
-}
-
-/// Tells what is wrong with a script of JSON, or else what is hardly meant.
-fn tell_json_advice<O: Out>(alloc: Global, output: &mut O, text: &[u8]) -> Ending {
-    let mut lines = Sink::new(alloc);
-    let ending = put_advice(alloc, &mut lines, text);
-    put_lines(output, lines, ending)
 }
 
 /// Tells what is wrong with a script in words, or else what is hardly meant.
@@ -195,9 +159,8 @@ fn tell_words_advice<O: Out>(alloc: Global, output: &mut O, text: &[u8]) -> Endi
     };
     match json(alloc, &said) {
         Ok(told) => {
-            let mut lines = Sink::new(alloc);
-            let ending = put_words_warnings(alloc, &mut lines, &said, &told);
-            put_lines(output, lines, ending)
+            let made = advice(alloc, told.text.as_bytes(), &told.script, Some(&said));
+            put_lines(output, made)
         }
         Err(untold) => tell_untold(alloc, output, untold),
     }
@@ -207,7 +170,7 @@ fn tell_words_advice<O: Out>(alloc: Global, output: &mut O, text: &[u8]) -> Endi
 /// ending only where that is asked for.
 pub fn tell_faults<O: Out>(alloc: Global, output: &mut O, strict: bool, text: &[u8]) -> Ending {
     let ending = if is_json(text) {
-        tell_json_advice(alloc, output, text)
+        put_lines(output, json_advice(alloc, text))
     } else {
         tell_words_advice(alloc, output, text)
     };

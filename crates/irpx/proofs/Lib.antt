@@ -3,7 +3,6 @@ pub mod CommandLine
 pub mod Judged
 pub mod OneSeat
 pub mod Pieces
-pub mod Ran
 pub mod Runs
 pub mod Shown
 pub mod Telling

@@ -15,7 +15,8 @@ use Rattle.irp_script_reader.specs.declared.script.Script.{Script}
 use Rattle.irp_script_reader.specs.declared.script.ScriptForm.{ScriptForm}
 use Rattle.irp_script.specs.Told.{IsTold}
 use Rattle.irp_script.specs.Words.{AreInOrder}
-use Rattle.irpx.specs.Running.{IsRun, run_transcript, fixed_for, form_of}
+use Rattle.irpx.specs.Running.{IsRun, run_transcript, fixed_for}
+use Rattle.irp_steps.specs.Forms.{form_of}
 
 -- the form of the transcript, once it is put in, has the limit that is fixed
 in_form : (script : Script) (tables : Tables) (header : Header) → fixed_of header ≡ fixed_for script tables → fixed_of (record header { form = form_of script.form }) ≡ fixed_for script tables

@@ -31,8 +31,6 @@ use Rattle.irp_shared.specs.Answered.{EachAnswered}
 use Rattle.irp_transcript.specs.Headers.{fixed_of, limit_of, IsHeader}
 use Rattle.irp_shared.specs.Closing.{AreSeated}
 use Rattle.irp_transcript.specs.Transcripts.{TranscriptValue}
-use Rattle.irp_transcript.specs.declared.header.Form.{Form}
-use Rattle.irp_transcript.specs.declared.header.Form.TheVariants.{One, Two}
 use Rattle.irp_transcript.specs.declared.header.Header.{Header}
 use Rattle.irp_transcript.specs.declared.word_line.WordLine.{WordLine}
 use Rattle.irp_script_reader.specs.Scripts.{ReadsScript}
@@ -42,9 +40,9 @@ use Rattle.irp_script_reader.specs.declared.refusal.ScriptRefusal.{ScriptRefusal
 use Rattle.irp_script_reader.specs.declared.script.CompletionRoutine.{CompletionRoutine}
 use Rattle.irp_script_reader.specs.declared.script.Script.{Script}
 use Rattle.irp_script_reader.specs.declared.script.ScriptForm.{ScriptForm}
-use Rattle.irp_script_reader.specs.declared.script.ScriptForm.TheVariants as script_form
 use Rattle.irp_script.specs.Between.{hands_between}
 use Rattle.irp_steps.specs.Behaviours.{cancel_rule_of}
+use Rattle.irp_steps.specs.Forms.{form_of}
 use Rattle.irp_script.specs.Made.{calls_in, calls_of}
 use Rattle.irp_script.specs.Numbers.{EachAsOften, NoneMoreOften}
 use Rattle.irp_script.specs.Outcomes.{Outcome, Ways, outcomes}
@@ -119,12 +117,6 @@ tables_of script =
     (and_cancels script.cancels (and_routines script.completions no_tables)))
 
 -- ---- the output
-
--- the form of a script's transcript: the same, and form 2 where the script has form 3, with as many cancel slots
-abbrev pub form_of : ScriptForm → Form
-form_of script_form.One = One
-form_of (script_form.Two slots) = Two slots
-form_of (script_form.Three slots) = Two slots
 
 -- what is fixed while the script is run with these tables
 abbrev pub fixed_for : Script → Tables → Fixed

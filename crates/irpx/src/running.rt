@@ -26,10 +26,10 @@ ghost use Rattle.irpx.specs.Running.{
   and_drivers,
   run_transcript,
   fixed_for,
-  form_of,
   most_taken,
   tables_of,
 };
+ghost use Rattle.irp_steps.specs.Forms.{form_of};
 ghost use Rattle.irp_streams.specs.Streams.{Bytes, TakesAtMost, output_of, streams_of};
 
 use crate::not_done::{NotDone, Phase};
@@ -42,10 +42,8 @@ use irp_script::{
     AlwaysOpen, RunFault, ScriptSeat, Stop, Worked, hand_between, run_workers, script_seats,
 };
 use irp_script_reader::{Script, ScriptFault, ScriptForm, ScriptParts, read_script};
-use irp_shared::{
-    Form, Seat, Session, Shared, Transcript, TranscriptParts, WordLine, open_with_limit,
-};
-use irp_steps::{table_answer, table_cancel};
+use irp_shared::{Seat, Session, Shared, Transcript, TranscriptParts, WordLine, open_with_limit};
+use irp_steps::{form_of, table_answer, table_cancel};
 use irp_streams::{Out, read_up_to};
 use irp_types::{Row, Shown};
 use std::alloc::{AllocError, Global};
@@ -100,17 +98,6 @@ fn seats_of<L: Session>(
         seats.push_reserved(seat);
     }
     Ok(seats)
-}
-
-/// The form of the transcript of a script of this form: that of form 3 has form 2.
-fn form_of(form: ScriptForm) -> Form
-    ensures { result ≡ form_of form }
-{
-    match form {
-        ScriptForm::One => Form::One,
-        ScriptForm::Two { slots } => Form::Two { slots },
-        ScriptForm::Three { slots } => Form::Two { slots },
-    }
 }
 
 /// The transcript of a session with the form of the script that was run, and with these word lines, on condition that

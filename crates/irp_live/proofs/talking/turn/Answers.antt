@@ -14,7 +14,7 @@ returns-in-Ok g c =
     let put = rw c.as_slice-in-Some.ensures.value at c.in-Ok.ensures.ok in
     exchanged c.args.number (session_of c.args.session.now) (session_of c.reply.new.self)
     (streams_of (g.R.Read.remaining c.args.input.now) (g.O.Out.gone c.args.output.now) (g.O.Out.failures c.args.output.now))
-    (streams_of (g.R.Read.remaining c.read_line.new.input) (g.O.Out.gone c.put.new.output) (g.O.Out.failures c.put.new.output))
+    (streams_of (g.R.Read.remaining c.read_line.new.input) (g.O.Out.gone c.send.new.output) (g.O.Out.failures c.send.new.output))
     c.read_line.new.line.items c.in-Some.said.items read reply put
 
 pub returns : goal.returns
@@ -25,5 +25,5 @@ returns g c =
     let put = rw c.as_slice-in-Some.ensures.value at c.in-Err.ensures.err in
     interrupted c.args.number (session_of c.args.session.now) (session_of c.reply.new.self)
     (streams_of (g.R.Read.remaining c.args.input.now) (g.O.Out.gone c.args.output.now) (g.O.Out.failures c.args.output.now))
-    (streams_of (g.R.Read.remaining c.read_line.new.input) (g.O.Out.gone c.put.new.output) (g.O.Out.failures c.put.new.output))
+    (streams_of (g.R.Read.remaining c.read_line.new.input) (g.O.Out.gone c.send.new.output) (g.O.Out.failures c.send.new.output))
     c.read_line.new.line.items c.in-Some.said.items read reply put

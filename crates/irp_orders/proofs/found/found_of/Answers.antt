@@ -5,7 +5,6 @@ use Rattle.irp_machine.specs.declared.outcome.Outcome.{Outcome}
 use Rattle.irp_orders.specs.Founds.{outcomes_of}
 use Rattle.irp_orders.specs.declared.found.Found.{Found}
 use Rattle.irp_orders.specs.Rows.{IsAnswered, IsOwn}
-use Rattle.irp_orders.proofs.Grouping.{own_more}
 use Rattle.irp_orders.proofs.found.found_of.Goals as goal
 
 pub loop-outcome-preserved : goal.loop-outcome-preserved
@@ -21,7 +20,7 @@ loop-outcome-preserved c =
           (sym (ap (λ (items : List Found). reverse items) c.in_ok-push.ensures.items ∙ reverse-append before _));
       own =
           subst (λ (items : List Found). All IsOwn items) (sym c.in_ok-push.ensures.items)
-          (own_more before _ c.loop-outcome.invariant.own (record { orders = refl; joined = refl }));
+          (All-push IsOwn before _ c.loop-outcome.invariant.own (record { orders = refl; joined = refl }));
       answered =
           subst (λ (items : List Found). All (IsAnswered c.args.steps.now) items) (sym c.in_ok-push.ensures.items)
           (All-push (IsAnswered c.args.steps.now) before _ c.loop-outcome.invariant.answered c.in_ok-answers.ensures);

@@ -18,7 +18,7 @@ use Rattle.irp_script.specs.declared.stop.Stop.{Stop}
 use Rattle.irp_script.proofs.Ran.{all_opened, closed_ran}
 use Rattle.irpx.specs.Running.{IsRun, ShowsSteps, run_transcript}
 use Rattle.irpx.specs.declared.running.Finished.{Finished}
-use Rattle.irpx.proofs.Ran.{slots_same}
+use Rattle.irp_steps.proofs.Slots.{slots_same}
 use Rattle.irpx.proofs.Runs.{closed_is_run}
 use Rattle.irpx.proofs.Shown.{ran_shows}
 use Rattle.irpx.proofs.running.session.Goals as goal

@@ -4,7 +4,7 @@ use Rattle.irp_transcript.specs.Headers.{slots_of as slots_in}
 use Rattle.irp_script_reader.specs.Forms.{slots_of}
 use Rattle.irp_script_reader.specs.declared.script.ScriptForm.{ScriptForm}
 use Rattle.irp_script_reader.specs.declared.script.ScriptForm.TheVariants as script_form
-use Rattle.irpx.specs.Running.{form_of}
+use Rattle.irp_steps.specs.Forms.{form_of}
 
 -- the form of its transcript has as many
 pub slots_same : (form : ScriptForm) → slots_in (form_of form) ≡ slots_of form
