@@ -1,5 +1,6 @@
 -- Warnings in the order of the text.
-use Rattle.std.proofs.Common.{◌≡◌, ℕ, ◌+◌, ◌<◌, ◌≤◌, Bool, true, false, List, [], ◌∷◌, ◌++◌, length, map, take, get_or, slice_get, if◌then◌else◌, nat_lt, Option, Some, None, All, AllPairs, refl, sym, ap, subst, ◌∙◌, arith, append-nil, length-append, length-take, take_all, ltb-true, ltb-false}
+use Rattle.std.proofs.Common.{◌≡◌, ℕ, ◌+◌, ◌<◌, ◌≤◌, ◌||◌, Bool, true, false, List, [], ◌∷◌, ◌++◌, length, map, take, get_or, slice_get, if◌then◌else◌, nat_lt, Option, Some, None, All, AllPairs, refl, sym, ap, subst, ◌∙◌, arith, append-nil, length-append, length-take, take_all, lt-ltb, le-ltb, ltb-true, ltb-false}
+use Rattle.std.specs.List.{list_any}
 use Rattle.std.proofs.lemmas.List.{map-append, take-append-le, length-map}
 use Rattle.std.proofs.lemmas.List.Elements.{All-push}
 use Rattle.std.proofs.lemmas.List.Quantifiers.{all_pairs_push}
@@ -12,7 +13,7 @@ use Rattle.irp_plain.specs.declared.parts.After.{After}
 use Rattle.irp_machine.specs.Machine.{act_of}
 use Rattle.irp_machine.specs.Runs.{RunValue, RunsOn, act_in}
 use Rattle.irp_machine.specs.declared.parts.Planned.{Planned}
-use Rattle.irp_warnings.specs.Concerns.{Hint, concern_of}
+use Rattle.irp_warnings.specs.Concerns.{Hint, concern_of, is_told, tells_of}
 use Rattle.irp_warnings.specs.Warned.{AreFirst, AreInOrder, Goes, IsMade, IsThere, MadeStep, Plays, hint_of, hinted, hints, hints_in, hints_of, place_in, place_of, steps_in, with_hints}
 use Rattle.irp_warnings.specs.declared.warning.Concern.{Concern}
 use Rattle.irp_warnings.specs.declared.warning.Warning.{Warning}
@@ -64,6 +65,36 @@ pub hinted_once : (section : Section) (index : ℕ) (concern : Option Concern) �
 hinted_once section index None = omega arith
 hinted_once section index (Some concern) = omega arith
 
+-- ---- what is told
+
+pub told_of_warnings : (label : ℕ) (found : List Warning)
+    → list_any (λ (warning : Warning). tells_of label warning.concern) found ≡ is_told (hints_of found) label
+told_of_warnings label [] = refl
+told_of_warnings label (warning ∷ others) = ap (λ rest. tells_of label warning.concern || rest) (told_of_warnings label others)
+
+hint : Section → ℕ → Concern → Hint
+hint section index concern = record { section = section; index = index; concern = concern }
+
+with_room : (more told : List Hint) → length told < 100 → with_hints more told ≡ told ++ more
+with_room more told few = ap (λ (test : Bool). if test then told ++ more else told) (lt-ltb (length told) 100 few)
+
+-- a warning of a step was put behind the others
+pub added : (section : Section) (index : ℕ) (concern : Concern) (old new : List Warning) (warning : Warning) → length old < 100
+    → warning.section ≡ section → warning.index ≡ index → warning.concern ≡ concern → new ≡ old ++ warning ∷ []
+    → hints_of new ≡ with_hints (hinted section index (Some concern)) (hints_of old)
+added section index concern old new warning few is_section is_index is_concern is =
+    let same : hint_of warning ≡ hint section index concern =
+    ap (λ (section : Section). hint section warning.index warning.concern) is_section
+    ∙ ap (λ (index : ℕ). hint section index warning.concern) is_index ∙ ap (λ (concern : Concern). hint section index concern) is_concern in
+    ap hints_of is ∙ map-append hint_of old (warning ∷ []) ∙ ap (λ (one : Hint). hints_of old ++ one ∷ []) same
+    ∙ sym (with_room (hinted section index (Some concern)) (hints_of old) (omega (arith, few, length-map old hint_of)))
+
+pub not_added : (section : Section) (index : ℕ) (concern : Concern) (old : List Warning) → 100 ≤ length old
+    → hints_of old ≡ with_hints (hinted section index (Some concern)) (hints_of old)
+not_added section index concern old many =
+    sym (ap (λ (test : Bool). if test then hints_of old ++ hint section index concern ∷ [] else hints_of old)
+    (le-ltb (length (hints_of old)) 100 (omega (arith, many, length-map old hint_of))))
+
 -- ---- where they stand
 
 within : (script : ScriptParts) (limit more : ℕ) (hint : Hint) → limit ≤ more → IsThere script limit hint → IsThere script more hint
@@ -101,7 +132,7 @@ by_test : (test : Bool) (told : List Hint) → (if test then told ++ [] else tol
 by_test true told = append-nil told
 by_test false told = refl
 
-unchanged : (told : List Hint) → with_hints [] told ≡ told
+pub unchanged : (told : List Hint) → with_hints [] told ≡ told
 unchanged told = by_test (nat_lt (length told) 100) told
 
 pub told_more : (script : ScriptParts) (section : Section) (index : ℕ) (concern : Option Concern) (old new : List Warning)

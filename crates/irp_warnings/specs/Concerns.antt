@@ -1,11 +1,11 @@
 -- What of a step that was made is hardly meant.
-use Rattle.std.specs.Prelude.{ℕ, ◌==◌, ◌&&◌, Bool, true, false, not, if◌then◌else◌, nat_le, nat_lt, List, [], ◌∷◌, length, slice_get, Option, Some, None}
-use Rattle.std.specs.List.{list_any}
+use Rattle.std.specs.Prelude.{ℕ, ◌-◌, ◌==◌, ◌&&◌, Bool, true, false, not, if◌then◌else◌, nat_le, nat_lt, List, [], length, slice_get, Option, Some, None}
+use Rattle.std.specs.List.{find, list_any}
 use Rattle.std.specs.Bool.{then_some}
 use Rattle.std.specs.Option.{option_and_then, option_map, option_map_or, option_or}
 use Rattle.irp_types.specs.declared.{asked.Asked.Asked, entry.Entry.Entry, names.CancelId.CancelId, names.DeviceId.DeviceId}
-use Rattle.irp_types.specs.declared.{names.DispatchId.DispatchId, names.IrpRef.IrpRef, names.LockNo.LockNo}
-use Rattle.irp_types.specs.declared.{reply.Reply.Reply, routine.Known.Known, routine.Setting.Setting, shown.Shown.Shown}
+use Rattle.irp_types.specs.declared.{names.IrpRef.IrpRef, names.LockNo.LockNo}
+use Rattle.irp_types.specs.declared.{reply.Reply.Reply, routine.Known.Known, routine.Setting.Setting}
 use Rattle.irp_types.specs.declared.asked.Asked.TheVariants.{Dispatch}
 use Rattle.irp_types.specs.declared.call.Party.TheVariants.{Originator}
 use Rattle.irp_types.specs.declared.call.Call.TheVariants as call
@@ -109,21 +109,22 @@ too_short standing act target =
     option_and_then (too_short_by standing.manager.state.devices (packet_of standing.labels act) target)
     (live_at standing.manager.state (packet_of standing.labels act).slot)
 
--- a dispatch passed the packet down, as it was asked, and no device is below
-abbrev pub passed_down : ScriptParts → Asked → Option Concern
-passed_down script (Dispatch id shown plan) =
-    if not shown.has_lower && option_map_or is_passing (slice_get script.dispatches id.0) false then
-    option_map (λ device. NoLower device id shown.major) shown.device else None
-passed_down script other = None
+-- a dispatch passes the packet down, as it was asked, and no device is below
+abbrev pub lacks_lower : ScriptParts → Asked → Bool
+lacks_lower script (Dispatch id shown plan) =
+    not shown.has_lower && option_map_or is_passing (slice_get script.dispatches id.0) false
+lacks_lower script other = false
 
--- the first of these that did
-abbrev pub no_lower : ScriptParts → List Asked → Option Concern
-no_lower script [] = None
-no_lower script (one ∷ others) = option_or (passed_down script one) (no_lower script others)
+abbrev pub lower_lacked : Asked → Option Concern
+lower_lacked (Dispatch id shown plan) = option_map (λ device. NoLower device id shown.major) shown.device
+lower_lacked other = None
 
 -- what was asked in the last call
-abbrev pub asked_last : List Entry → Option (List Asked)
-asked_last entries = option_map (λ (entry : Entry). entry.asked) (slice_get entries (length entries - 1))
+abbrev pub asked_last : List Entry → List Asked
+asked_last entries = option_map_or (λ (entry : Entry). entry.asked) (slice_get entries (length entries - 1)) []
+
+abbrev pub no_lower : ScriptParts → List Entry → Option Concern
+no_lower script entries = option_and_then lower_lacked (find (lacks_lower script) (asked_last entries))
 
 -- a call was made in this run, and answered so
 abbrev pub of_call : ScriptParts → RunValue → CallOf Named ℕ → Reply → Option Concern
@@ -133,7 +134,7 @@ of_call script run (call.Delete device) (Refused StillAttached) = Some Attached
 of_call script run (call.CallDriver Originator irp target) (Refused refusal) =
     too_short run.standing (Call (call.CallDriver Originator irp target)) target
 of_call script run (call.CallDriver party irp target) (Status status) =
-    option_and_then (no_lower script) (asked_last run.entries)
+    no_lower script run.entries
 of_call script run other reply = None
 
 abbrev pub of_given : ScriptParts → RunValue → StepAct → ℕ → Answered → Option Concern

@@ -75,9 +75,7 @@ pub fn may_be_answered(act: StepAct, answer: ExpectedAnswer) -> bool
 {
     match answer {
         ExpectedAnswer::AnyRefusal => true,
-        ExpectedAnswer::Refusal(_) => {
-            matches!(act, StepAct::Call(_) | StepAct::Allocate { .. })
-        }
+        ExpectedAnswer::Refusal(_) => { matches!(act, StepAct::Call(_) | StepAct::Allocate { .. }) }
         ExpectedAnswer::Success | ExpectedAnswer::Status(_) => answers_status(act),
         ExpectedAnswer::AnyRoutine | ExpectedAnswer::Previous(_) => {
             matches!(act, StepAct::Call(Call::SetCancelRoutine { .. }))

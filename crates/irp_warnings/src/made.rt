@@ -1,6 +1,7 @@
 //! What isn't meant in the steps of a script, by what they are answered as they are made in the order of the text.
 
 ghost use Rattle.std.specs.Prelude.{◌≡◌, IfOk, slice_get};
+ghost use Rattle.std.specs.List.{find};
 ghost use Rattle.std.specs.Option.{option_map_or};
 ghost use Rattle.irp_types.specs.Descent.{is_passing};
 ghost use Rattle.irp_script_reader.specs.Sound.{known_of};
@@ -14,7 +15,8 @@ use irp_script_reader::{Condition, Named, ScriptParts, Step, StepAct};
 use irp_steps::{label_at, named_by, packet_of};
 use irp_transcript::WordReply;
 use irp_types::{
-    Asked, Call, CancelId, DeviceId, DispatchId, Hand, Known, LockAct, Party, Plan, Refusal, Reply, Setting,
+    Asked, Call, CancelId, DeviceId, DispatchId, Entry, Hand, Known, LockAct, Party, Plan, Refusal,
+    Reply, Setting,
 };
 use std::alloc::AllocError;
 
@@ -55,12 +57,22 @@ pub fn answer_of<'a>(
     Err(AllocError)
 }
 
-/// Whether a warning tells of a label that isn't bound.
+/// Whether a warning tells that this label isn't bound.
+fn tells_of(warning: &Warning, label: usize) -> bool
+    ensures { result ≡ spec.tells_of label warning.now.concern }
+{
+    match warning.concern {
+        Concern::Unbound { label: one } => one == label,
+        _ => false,
+    }
+}
+
+/// Whether one of these does.
+#[tactic(auto, using(crate::proofs::Ordered::told_of_warnings))]
 fn is_told(told: &[Warning], label: usize) -> bool
     ensures { result ≡ spec.is_told (hints_of told.now) label }
 {
-    told.iter()
-        .any(|warning| matches!(warning.concern, Concern::Unbound { label: one } if one == label))
+    told.iter().any(|warning| tells_of(warning, label))
 }
 
 /// The label that an act names, where it isn't bound, and no warning tells of it: its packet's use would have number 0.
@@ -166,9 +178,7 @@ fn of_call(
             },
             Reply::Refused(_),
         ) => too_short(run.standing(), StepAct::Call(call), target),
-        (Call::CallDriver { .. }, Reply::Status(_)) => {
-            no_lower(script, run.entries().last()?.asked.as_slice())
-        }
+        (Call::CallDriver { .. }, Reply::Status(_)) => no_lower(script, run.entries()),
         _ => None,
     }
 }
@@ -222,31 +232,39 @@ fn passes_down(script: &ScriptParts, dispatch: DispatchId) -> bool
     )
 }
 
-/// A dispatch passes the packet down, as it was asked, where no device is below.
-fn passed_down(script: &ScriptParts, asked: Asked) -> Option<Concern>
-    ensures { result ≡ spec.passed_down script.now asked }
+/// Whether a dispatch passes the packet down, as it was asked, where no device is below.
+fn lacks_lower(script: &ScriptParts, asked: Asked) -> bool
+    ensures { result ≡ spec.lacks_lower script.now asked }
 {
     match asked {
-        Asked::Dispatch { id, shown, .. } if !shown.has_lower && passes_down(script, id) => {
-            Some(Concern::NoLower {
-                device: shown.device?,
-                dispatch: id,
-                major: shown.major,
-            })
-        }
-        _ => None,
+        Asked::Dispatch { id, shown, .. } => !shown.has_lower && passes_down(script, id),
+        _ => false,
     }
 }
 
-/// Of the dispatches that were asked the first that passes the packet down where no device is below.
-fn no_lower(script: &ScriptParts, asked: &[Asked]) -> Option<Concern>
-    ensures { result ≡ spec.no_lower script.now asked.now }
+/// Of those that were asked the first that does.
+fn first_lacking(script: &ScriptParts, asked: &[Asked]) -> Option<Asked>
+    ensures { result ≡ find (spec.lacks_lower script.now) asked.now }
 {
     for one in asked {
-        let concern = passed_down(script, *one);
-        if concern.is_some() {
-            return concern;
+        if lacks_lower(script, *one) {
+            return Some(*one);
         }
     }
     None
+}
+
+/// A dispatch that was asked in the last call passes the packet down, and no device is below.
+fn no_lower(script: &ScriptParts, entries: &[Entry]) -> Option<Concern>
+    ensures { result ≡ spec.no_lower script.now entries.now }
+{
+    let asked = entries.last()?.asked.as_slice();
+    match first_lacking(script, asked)? {
+        Asked::Dispatch { id, shown, .. } => Some(Concern::NoLower {
+            device: shown.device?,
+            dispatch: id,
+            major: shown.major,
+        }),
+        _ => None,
+    }
 }

@@ -9,7 +9,9 @@ use irp_types::{DeviceId, DispatchId, LockNo, Rule};
 #[derive(Clone, Copy)]
 pub enum Concern {
     /// No allocate binds this label before.
-    Unbound { label: usize },
+    Unbound {
+        label: usize,
+    },
     /// A completion routine of a rule isn't there, or a cancel routine, where no rule is named.
     NoRoutine {
         rule: Option<Rule>,
@@ -17,7 +19,10 @@ pub enum Concern {
         count: u32,
     },
     /// A packet has fewer locations than the stack has devices.
-    TooShort { size: u32, devices: u32 },
+    TooShort {
+        size: u32,
+        devices: u32,
+    },
     /// A packet is passed down, and there is no device below.
     NoLower {
         device: DeviceId,
@@ -27,9 +32,14 @@ pub enum Concern {
     /// A device is deleted that has a neighbour.
     Attached,
     /// A seat gives back what it doesn't hold.
-    NotHeld { seat: u32, lock: LockNo },
+    NotHeld {
+        seat: u32,
+        lock: LockNo,
+    },
     /// The step that it hangs on is never answered so.
-    NeverAnswered { step: u32 },
+    NeverAnswered {
+        step: u32,
+    },
 }
 
 /// One thing in a script that is taken, and is hardly meant.
