@@ -5,7 +5,7 @@ use Rattle.std.proofs.lemmas.Grind.{flat_map-append}
 use Rattle.irp_types.specs.declared.entry.Entry.{Entry}
 use Rattle.irp_listing.specs.Heads.{head_text}
 use Rattle.irp_listing.specs.Lines.{further_of, head_of}
-use Rattle.irp_listing.specs.Blocks.{AddsBlock, AddsEnd, AddsLines}
+use Rattle.irp_listing.specs.Blocks.{AddsBlock, AddsLines, end_lines}
 
 -- what was put, and then more
 pub then_more : (x y z a b : List ℕ) → y ≡ x ++ a → z ≡ y ++ b → z ≡ x ++ (a ++ b)
@@ -29,26 +29,22 @@ both_lines a b x y z first second = record {
       ∙ ap (λ given. x ++ given) (sym (flat_map-append further_of first.lines second.lines));
 }
 
--- a head, the lines of the questions, and perhaps one more are the block of an entry
-pub is_block : (entry : Entry) (tells_seat is_left_out : Bool) (w x y z : List ℕ) → x ≡ w ++ head_of entry.number (head_text tells_seat is_left_out entry) → AddsLines (length entry.asked * 2) x y → AddsEnd y z → AddsBlock entry w z
+-- a head, the lines of the questions, and that of the end are the block of an entry
+pub is_block : (entry : Entry) (tells_seat is_left_out : Bool) (w x y z : List ℕ) → x ≡ w ++ head_of entry.number (head_text tells_seat is_left_out entry) → AddsLines (length entry.asked * 2) x y → AddsLines (end_lines entry) y z → AddsBlock entry w z
 is_block entry tells_seat is_left_out w x y z head asked end =
     let words : List ℕ = head_text tells_seat is_left_out entry in
-    let lines = both_lines (length entry.asked * 2) end.count x y z asked end.adds in
+    let lines = both_lines (length entry.asked * 2) (end_lines entry) x y z asked end in
     record {
       block = head_of entry.number words ++ flat_map further_of lines.lines;
       is_one = record {
         tells_seat = tells_seat;
         is_left_out = is_left_out;
         lines = lines.lines;
-        two_each = omega (arith, lines.many);
-        few = omega (arith, lines.many, end.few);
+        many = lines.many;
         whole = refl;
       };
       put = then_more w x z (head_of entry.number words) (flat_map further_of lines.lines) head lines.put;
     }
-
-pub one_end : (x y : List ℕ) → AddsLines 1 x y → AddsEnd x y
-one_end x y adds = record { count = 1; few = omega arith; adds = adds }
 
 -- the two lines of one more question
 pub more_lines : (index : ℕ) (x y z : List ℕ) → AddsLines (index * 2) x y → AddsLines 2 y z → AddsLines ((index + 1) * 2) x z

@@ -1,8 +1,8 @@
 -- Which lines stand for which entries.
-use Rattle.std.specs.Prelude.{ℕ, Bool, ◌≡◌, ◌≤◌, ◌*◌, ◌+◌, List, ◌++◌, length}
+use Rattle.std.specs.Prelude.{ℕ, Bool, ◌≡◌, ◌*◌, ◌+◌, List, ◌++◌, length, if◌then◌else◌}
 use Rattle.std.specs.List.{flat_map}
 use Rattle.irp_types.specs.declared.entry.Entry.{Entry}
-use Rattle.irp_listing.specs.Heads.{head_text}
+use Rattle.irp_listing.specs.Heads.{head_text, moves}
 use Rattle.irp_listing.specs.Lines.{head_of, further_of}
 
 -- so many further lines were put behind what stood there
@@ -11,20 +11,17 @@ pub record AddsLines (count : ℕ) (before after : List ℕ) : Type 0 where
   pub many : length lines ≡ count
   pub put : after ≡ before ++ flat_map further_of lines
 
--- one was, or none
-pub record AddsEnd (before after : List ℕ) : Type 0 where
-  pub count : ℕ
-  pub few : count ≤ 1
-  pub adds : AddsLines count before after
+-- how many tell where the packet is: one after a call that moved it, and else none
+abbrev pub end_lines : Entry → ℕ
+end_lines entry = if moves entry entry.reply then 1 else 0
 
 -- the block of an entry: a line with its number, the call and the reply, and perhaps the seat; two further lines for each
--- question, and at most one more
+-- question, and one behind a call that moved its packet
 pub record IsBlock (entry : Entry) (block : List ℕ) : Type 0 where
   pub tells_seat : Bool
   pub is_left_out : Bool
   pub lines : List (List ℕ)
-  pub two_each : length entry.asked * 2 ≤ length lines
-  pub few : length lines ≤ length entry.asked * 2 + 1
+  pub many : length lines ≡ length entry.asked * 2 + end_lines entry
   pub whole : block ≡ head_of entry.number (head_text tells_seat is_left_out entry) ++ flat_map further_of lines
 
 -- the block of this entry was put behind what stood there

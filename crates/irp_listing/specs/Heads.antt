@@ -27,6 +27,11 @@ sends (CallDriver party irp target) asked = true
 sends (Cancel irp) asked = not (length asked == 0)
 sends call asked = is_some (packet_completed call)
 
+-- it moved its packet
+abbrev pub moves : Entry → Reply → Bool
+moves entry (Refused refusal) = false
+moves entry other = sends entry.call entry.asked
+
 -- where an outcome is told below, the reply is told there
 abbrev pub unless_sent : Entry → List ℕ
 unless_sent entry = if sends entry.call entry.asked then [] else codes " -> " ++ reply_text entry.call entry.reply

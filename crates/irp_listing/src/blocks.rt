@@ -1,7 +1,7 @@
 //! The lines of an entry.
 
 ghost use Rattle.std.specs.Prelude.{length, OnOk, ◌*◌, Some};
-ghost use Rattle.irp_listing.specs.Blocks.{AddsLines, AddsBlock, AddsEnd};
+ghost use Rattle.irp_listing.specs.Blocks.{AddsLines, AddsBlock, end_lines};
 ghost use Rattle.irp_listing.specs.Heads.{answer_text, caller_text, head_text, refused_text, seat_text};
 
 use crate::lines::{put_further, put_head};
@@ -202,7 +202,7 @@ fn put_questions(
 
 /// Puts the line that tells where the packet is after a call that moved it. The one error is want of memory.
 fn put_outcome(out: &mut Vec<u8>, words: &mut String, entry: &Entry) -> Result<(), AllocError>
-    ensures { OnOk result (AddsEnd out.old.items out.new.items) }
+    ensures { OnOk result (AddsLines (end_lines entry.now) out.old.items out.new.items) }
 {
     if !moves(entry) {
         return Ok(());

@@ -1,7 +1,7 @@
 //! Where a packet is after a call that moved it.
 
 ghost use Rattle.std.specs.Prelude.{◌≡◌};
-ghost use Rattle.irp_listing.specs.Heads.{sends};
+ghost use Rattle.irp_listing.specs.Heads.{moves, sends};
 
 use irp_names::{DeviceWords, ReplyWords, ResultWords};
 use irp_types::{Asked, Call, CancelAnswer, DeviceId, Entry, Plan, Reply, Status};
@@ -32,8 +32,13 @@ pub fn sends(call: Call, asked: &[Asked]) -> bool
 }
 
 /// Whether the call of an entry moved its packet.
-pub fn moves(entry: &Entry) -> bool {
-    !matches!(entry.reply, Reply::Refused(_)) && sends(entry.call, entry.asked.as_slice())
+pub fn moves(entry: &Entry) -> bool
+    ensures { result ≡ moves entry.now entry.now.reply }
+{
+    match entry.reply {
+        Reply::Refused(_) => false,
+        _ => sends(entry.call, entry.asked.as_slice()),
+    }
 }
 
 /// What a packet is completed with before any routine is asked: what the call says, else what a driver without a

@@ -1,5 +1,5 @@
 -- Outcomes that are joined in groups.
-use Rattle.std.proofs.Common.{ℕ, zero, suc, ◌≡◌, ◌⊎◌, inl, inr, refl, sym, ◌∙◌, ap, subst, ◌+◌, ◌<◌, ◌≤◌, ◌==◌, min, List, [], ◌∷◌, ◌++◌, length, set, Bool, true, false, Option, Some, All, Global, arith, get_or, reverse, append_assoc, length-append}
+use Rattle.std.proofs.Common.{ℕ, zero, suc, ◌≡◌, ◌⊎◌, inl, inr, refl, sym, ◌∙◌, ap, subst, ◌+◌, ◌<◌, ◌==◌, min, List, [], ◌∷◌, ◌++◌, length, set, Bool, true, false, Option, Some, All, Global, arith, reverse, append_assoc, length-append}
 use Rattle.std.specs.Prelude.{if◌then◌else◌, slice_get, Vec}
 use Rattle.std.proofs.lemmas.List.{length-set}
 use Rattle.std.proofs.lemmas.Option.{slice_get_within, slice_get-map, get_or_from_slice_get, slice_get-get_or}
@@ -123,7 +123,7 @@ grouped_in founds rows found numbers number row grouped stands alike = record {
   each = long_more founds numbers found number grouped.each;
   within =
       subst (λ long. All (λ number. number < long) (numbers ++ number ∷ [])) (sym (length-set rows number (joined_row row found)))
-      (All-push (λ number. number < length rows) numbers number grouped.within (slice_get_within rows number row stands));
+      (All-push (λ (number : ℕ). number < length rows) numbers number grouped.within (slice_get_within rows number row stands));
   groups = λ k other is. by k other is (number == k) refl;
 }
   where
@@ -154,8 +154,8 @@ grouped_last founds rows found numbers grouped own = record {
   each = long_more founds numbers found (length rows) grouped.each;
   within =
       subst (λ long. All (λ number. number < long) (numbers ++ length rows ∷ [])) (sym (length-append rows (found ∷ [])))
-      (All-push (λ number. number < length rows + 1) numbers (length rows)
-      (All-weaker (λ number. number < length rows) (λ number. number < length rows + 1) (λ number low. omega (arith, low)) numbers grouped.within) (omega arith));
+      (All-push (λ (number : ℕ). number < length rows + 1) numbers (length rows)
+      (All-weaker (λ (number : ℕ). number < length rows) (λ (number : ℕ). number < length rows + 1) (λ number low. omega (arith, low)) numbers grouped.within) (omega arith));
   groups = λ k other is. by k other (get_last rows found other k is);
 }
   where

@@ -1,7 +1,7 @@
 -- Partners that are noted.
-use Rattle.std.proofs.Common.{ℕ, ◌≡◌, ◌<◌, ◌≤◌, ◌+◌, inl, inr, ◌∙◌, ap, sym, subst, List, [], ◌∷◌, ◌++◌, length, take, get_or, All, Any, Contains, append_assoc}
+use Rattle.std.proofs.Common.{ℕ, ◌≡◌, ◌<◌, ◌+◌, inl, inr, ◌∙◌, ap, sym, subst, List, [], ◌∷◌, ◌++◌, length, take, get_or, All, Any, Contains, append_assoc}
 use Rattle.std.specs.List.{AllZip}
-use Rattle.std.proofs.lemmas.List.{append-nil, take_all, take_more}
+use Rattle.std.proofs.lemmas.List.{append-nil, take_more}
 use Rattle.std.proofs.lemmas.List.Elements.{All-more, Contains-append_left}
 use Rattle.std.proofs.lemmas.Slice.Zip.{all_zipped_more}
 use Rattle.irp_machine.specs.declared.live_end.LiveEnd.{LiveEnd}

@@ -26,10 +26,9 @@ use Rattle.irp_orders.specs.Facts.{Meets}
 use Rattle.irp_orders.specs.Founds.{outcomes_of}
 use Rattle.irp_orders.specs.Judging.{IsBreach, IsTold, IsVerdict, verdict_ending}
 use Rattle.irp_orders.specs.Exploring.{IsUnexplored, most_steps, tells}
-use Rattle.irp_orders.specs.Program.{Answers, Explores, IsAnswered, IsGivenUp, IsInput, IsRefused, IsToldOfJson, IsUnjudged, IsUnread, Judges}
+use Rattle.irp_orders.specs.Program.{Answers, Explores, IsAnswered, IsGivenUp, IsInput, IsRefused, IsToldOfJson, IsUnread, Judges}
 use Rattle.irp_orders.specs.declared.asked.Order.{Order}
 use Rattle.irp_orders.specs.declared.ending.Ending.{Ending}
-use Rattle.irp_orders.specs.declared.ending.Ending.TheVariants as ending
 use Rattle.irp_orders.specs.declared.found.Found.{Found}
 use Rattle.irp_streams.specs.declared.reading.StreamFault.{StreamFault}
 use Rattle.irp_streams.specs.declared.reading.StreamFault.TheVariants as stream

@@ -4,22 +4,17 @@ use Rattle.std.specs.Prelude.{◌↔◌, IsTrue, not}
 use Rattle.std.proofs.lemmas.List.Elements.{All-map}
 use Rattle.irp_types.specs.declared.entry.Entry.{Entry}
 use Rattle.irp_machine.specs.Orders.{AreOutcomesOf}
-use Rattle.irp_machine.specs.declared.limits.NotMade.{NotMade}
-use Rattle.irp_machine.specs.declared.limits.NotMade.TheVariants as made
 use Rattle.irp_machine.specs.declared.outcome.End.{End}
 use Rattle.irp_machine.specs.declared.outcome.Outcome.{Outcome}
 use Rattle.irp_script_reader.specs.declared.act.Step.{Step}
 use Rattle.irp_script_reader.specs.declared.script.ScriptParts.{ScriptParts}
-use Rattle.irp_orders.specs.Ending.{of_unmade}
-use Rattle.irp_orders.specs.Exploring.{IsUnexplored}
 use Rattle.irp_orders.specs.Facts.{answers_of}
 use Rattle.irp_orders.specs.Founds.{outcomes_of}
 use Rattle.irp_orders.specs.Judging.{IsExamined, IsVerdict, IsWrong, verdict_ending}
-use Rattle.irp_orders.specs.Program.{Examines, IsUnexamined, with_replies}
+use Rattle.irp_orders.specs.Program.{Examines}
 use Rattle.irp_orders.specs.Right.{IsAccepted, IsBack, IsEmpty, IsReleased, IsRight, IsSetup, IsTaken, IsWithoutRoutine}
 use Rattle.irp_orders.specs.declared.asked.Order.{Order}
 use Rattle.irp_orders.specs.declared.ending.Ending.{Ending}
-use Rattle.irp_orders.specs.declared.ending.Ending.TheVariants as ending
 use Rattle.irp_orders.specs.declared.found.Found.{Found}
 use Rattle.irp_orders.proofs.Programs.{contained}
 

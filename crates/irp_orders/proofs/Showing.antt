@@ -1,5 +1,5 @@
 -- How the program ends that was asked for rows.
-use Rattle.std.proofs.Common.{◌≡◌, ◌⊎◌, inl, inr, ◌<◌, ◌-◌, ℕ, List, Option, Some, length, refl, sym, subst}
+use Rattle.std.proofs.Common.{◌≡◌, ◌<◌, ◌-◌, ℕ, List, Some, refl}
 use Rattle.std.specs.Prelude.{slice_get}
 use Rattle.irp_machine.specs.Replays.{IsReplay, PathsCanBeMade, ReplaysEndSo, StopsShort}
 use Rattle.irp_machine.specs.declared.limits.NotMade.{NotMade}
@@ -7,13 +7,11 @@ use Rattle.irp_machine.specs.declared.limits.NotMade.TheVariants as made
 use Rattle.irp_script_reader.specs.declared.script.ScriptParts.{ScriptParts}
 use Rattle.irp_transcript.specs.Transcripts.{TranscriptValue}
 use Rattle.irp_orders.specs.Ending.{of_unmade}
-use Rattle.irp_orders.specs.Exploring.{IsUnexplored, tells}
+use Rattle.irp_orders.specs.Exploring.{tells}
 use Rattle.irp_orders.specs.Founds.{outcomes_of}
-use Rattle.irp_orders.specs.Program.{IsSent, IsShown, IsUnshown, IsUnwritten, Shows, Tables, Writes}
+use Rattle.irp_orders.specs.Program.{IsShown, IsUnshown}
 use Rattle.irp_orders.specs.Rows.{AreRowsOf}
 use Rattle.irp_orders.specs.declared.asked.Order.{Order}
-use Rattle.irp_orders.specs.declared.ending.Ending.{Ending}
-use Rattle.irp_orders.specs.declared.ending.Ending.TheVariants as ending
 use Rattle.irp_orders.specs.declared.found.Found.{Found}
 use Rattle.irp_orders.proofs.Grouping.{row_from}
 

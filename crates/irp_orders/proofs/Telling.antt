@@ -14,9 +14,9 @@ use Rattle.irp_types.specs.declared.reply.Reply.TheVariants as reply
 use Rattle.irp_transcript.specs.declared.word_line.WordReply.TheVariants as word
 use Rattle.irp_condition.specs.Formulas.{formula_of}
 use Rattle.irp_condition.specs.Holding.{held_value, label_value, reply_value, told_value, value_of}
-use Rattle.irp_condition.specs.declared.condition.Comparison.TheVariants.{Equal, Other, Below, AtMost, Above, AtLeast}
+use Rattle.irp_condition.specs.declared.condition.Comparison.TheVariants.{Equal}
 use Rattle.irp_condition.specs.declared.condition.Condition.{Condition}
-use Rattle.irp_condition.specs.declared.condition.Condition.TheVariants.{Or', And', Not', Is, Compare}
+use Rattle.irp_condition.specs.declared.condition.Condition.TheVariants.{Compare}
 use Rattle.irp_condition.specs.declared.condition.Fact.{Fact}
 use Rattle.irp_condition.specs.declared.condition.Fact.TheVariants as fact
 use Rattle.irp_condition.specs.declared.condition.Term.TheVariants as term

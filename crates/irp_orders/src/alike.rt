@@ -133,11 +133,10 @@ fn are_same_but_uses(alloc: Global, one: &Found, other: &Found) -> Result<bool, 
 fn uses_in(alloc: Global, answers: &[Option<Answered>]) -> Result<Vec<u64>, AllocError>
     ensures { IfOk result (λ uses. uses.items ≡ map spec.use_named answers.now) }
 {
-    let mut uses = Vec::new(alloc);
-    for answer in answers {
-        uses.push(use_named(*answer))?;
-    }
-    Ok(uses)
+    answers
+        .iter()
+        .map(|answer| use_named(*answer))
+        .collect(alloc)
 }
 
 /// The uses that labels stand for.

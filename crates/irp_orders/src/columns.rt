@@ -11,7 +11,7 @@ use std::alloc::{AllocError, Global};
 const MOST_DEVICES: usize = 64;
 
 /// Whether the table tells of what has this number.
-#[derive(Clone, Copy)]
+#[derive(Clone, Copy, Default)]
 pub struct Mark {
     /// Of the step: two outcomes differ in its answer.
     pub step: bool,
@@ -26,17 +26,6 @@ pub struct Mark {
 }
 
 impl Mark {
-    /// The table tells of nothing.
-    fn none() -> Mark {
-        Mark {
-            step: false,
-            label: false,
-            device: false,
-            lock: false,
-            slot: false,
-        }
-    }
-
     /// Notes what is to be told of this number for an outcome, beside the first one.
     fn note(&mut self, number: usize, first: &Found, found: &Found) {
         let (one, other) = (&first.outcome.end, &found.outcome.end);
@@ -72,7 +61,7 @@ fn numbers_of(parts: &ScriptParts) -> usize {
 
 /// The marks of so many numbers.
 fn marks_of(alloc: Global, numbers: usize, founds: &[Found]) -> Result<Vec<Mark>, AllocError> {
-    let mut marks = Vec::from_elem(alloc, Mark::none(), numbers)?;
+    let mut marks = Vec::from_elem(alloc, Mark::default(), numbers)?;
     if let Some(first) = founds.first() {
         for found in founds {
             note(marks.as_mut_slice(), first, found);

@@ -5,7 +5,7 @@ use irp_machine::{DeviceEnd, LiveEnd};
 use std::alloc::{AllocError, Global};
 
 /// The facts of packets in which some two differ that are one use and have the same owner, current location and status.
-#[derive(Clone, Copy)]
+#[derive(Clone, Copy, Default)]
 pub struct PacketFacts {
     pub information: bool,
     pub pending_returned: bool,
@@ -17,19 +17,6 @@ pub struct PacketFacts {
 }
 
 impl PacketFacts {
-    /// None of the facts.
-    fn none() -> PacketFacts {
-        PacketFacts {
-            information: false,
-            pending_returned: false,
-            cancel: false,
-            cancel_routine: false,
-            preparation: false,
-            slot_held: false,
-            locations: false,
-        }
-    }
-
     /// Notes in which facts two packets differ.
     fn note(&mut self, one: &LiveEnd, other: &LiveEnd) {
         self.information |= one.information != other.information;
@@ -69,7 +56,7 @@ fn note_packet<'a>(
 
 /// The facts in which packets of these outcomes differ that look alike. The one error is want of memory.
 pub fn packet_facts(alloc: Global, founds: &[Found]) -> Result<PacketFacts, AllocError> {
-    let mut facts = PacketFacts::none();
+    let mut facts = PacketFacts::default();
     let mut firsts = Vec::new(alloc);
     for found in founds {
         for live in found.outcome.end.packets.as_slice() {

@@ -1,7 +1,8 @@
 //! How the program ends.
 
 ghost use Rattle.std.specs.Prelude.{◌≡◌};
-ghost use Rattle.irp_orders.specs.Ending.{has_line, status_of};
+ghost use Rattle.irp_orders.specs.Ending.{has_line, of_refused, of_unfound, of_unheard, of_unmade, of_unread, status_of};
+ghost use Rattle.irp_orders.specs.declared.ending.Ending.TheVariants.{NoMemory};
 
 use irp_condition::{ConditionFault, Unread};
 use irp_machine::{NotFound, NotMade};
@@ -138,8 +139,6 @@ impl From<Unopened> for Ending {
 }
 
 impl From<StreamFault> for Ending {
-    ghost use Rattle.irp_orders.specs.Ending.{of_unheard};
-
     ghost from_gives = { λ given ending. ending ≡ of_unheard given };
 
     fn from(given: StreamFault) -> Ending {
@@ -151,8 +150,6 @@ impl From<StreamFault> for Ending {
 }
 
 impl From<ScriptFault> for Ending {
-    ghost use Rattle.irp_orders.specs.Ending.{of_refused};
-
     ghost from_gives = { λ given ending. ending ≡ of_refused given };
 
     fn from(given: ScriptFault) -> Ending {
@@ -164,8 +161,6 @@ impl From<ScriptFault> for Ending {
 }
 
 impl From<Unread> for Ending {
-    ghost use Rattle.irp_orders.specs.Ending.{of_unread};
-
     ghost from_gives = { λ given ending. ending ≡ of_unread given };
 
     fn from(given: Unread) -> Ending {
@@ -177,8 +172,6 @@ impl From<Unread> for Ending {
 }
 
 impl From<NotFound> for Ending {
-    ghost use Rattle.irp_orders.specs.Ending.{of_unfound};
-
     ghost from_gives = { λ given ending. ending ≡ of_unfound given };
 
     fn from(given: NotFound) -> Ending {
@@ -190,8 +183,6 @@ impl From<NotFound> for Ending {
 }
 
 impl From<NotMade> for Ending {
-    ghost use Rattle.irp_orders.specs.Ending.{of_unmade};
-
     ghost from_gives = { λ given ending. ending ≡ of_unmade given };
 
     fn from(given: NotMade) -> Ending {
@@ -203,8 +194,6 @@ impl From<NotMade> for Ending {
 }
 
 impl From<AllocError> for Ending {
-    ghost use Rattle.irp_orders.specs.declared.ending.Ending.TheVariants.{NoMemory};
-
     ghost from_gives = { λ _ ending. ending ≡ NoMemory };
 
     fn from(_given: AllocError) -> Ending {
@@ -213,8 +202,6 @@ impl From<AllocError> for Ending {
 }
 
 impl<T: Drop> From<AllocFailed<T>> for Ending {
-    ghost use Rattle.irp_orders.specs.declared.ending.Ending.TheVariants.{NoMemory};
-
     ghost from_gives = { λ _ ending. ending ≡ NoMemory };
 
     fn from(_given: AllocFailed<T>) -> Ending {

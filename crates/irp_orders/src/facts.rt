@@ -56,25 +56,14 @@ pub fn seen_of(answer: Answered) -> Told
     }
 }
 
-/// What a step was answered, as conditions see it.
-fn seen_by(answer: Option<Answered>) -> Option<Told>
-    ensures { result ≡ option_map spec.seen_of answer }
-{
-    match answer {
-        Some(answer) => Some(seen_of(answer)),
-        None => None,
-    }
-}
-
 /// What steps were answered, as conditions see it.
 fn all_seen(alloc: Global, answers: &[Option<Answered>]) -> Result<Vec<Option<Told>>, AllocError>
     ensures { IfOk result (λ seen. seen.items ≡ map (option_map spec.seen_of) answers.now) }
 {
-    let mut seen = Vec::new(alloc);
-    for answer in answers {
-        seen.push(seen_by(*answer))?;
-    }
-    Ok(seen)
+    answers
+        .iter()
+        .map(|answer| answer.map(seen_of))
+        .collect(alloc)
 }
 
 /// What each step was answered, as conditions see it.

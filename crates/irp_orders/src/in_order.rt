@@ -30,10 +30,8 @@ impl Part<'_> {
     /// What a remove lock or a cancel slot answered the step at a place.
     fn word_at(self, place: usize) -> Option<WordReply> {
         let mut words = self.words.iter();
-        match words.find(|line| line.step as usize == place) {
-            Some(line) => Some(line.reply),
-            None => None,
-        }
+        let line = words.find(|line| line.step as usize == place)?;
+        Some(line.reply)
     }
 }
 

@@ -80,12 +80,7 @@ fn put_packets(out: &mut Text, columns: &Columns<'_>, found: &Found) {
 
 /// Whether a reference names one of these live packets.
 fn is_live(packets: &[LiveEnd], irp: &IrpRef) -> bool {
-    for live in packets {
-        if names(irp, live) {
-            return true;
-        }
-    }
-    false
+    packets.iter().any(|live| names(irp, live))
 }
 
 /// Puts the labels that stand for other packets in other outcomes, where they name no live one.

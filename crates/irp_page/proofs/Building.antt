@@ -50,9 +50,6 @@ closed_nests around pieces is = nests_within [] [] around pieces is
 pub innermost : (opened : List Tag) (tag : Tag) → reverse (opened ++ tag ∷ []) ≡ tag ∷ reverse opened
 innermost opened tag = reverse-append opened (tag ∷ [])
 
-pub no_markup : IsMarkup [] []
-no_markup = record { nests = refl; none = refl }
-
 -- one more piece that begins no entry
 more : (pieces : List Piece) (piece : Piece) → signs pieces ≡ [] → signs (piece ∷ []) ≡ [] → signs (pieces ++ piece ∷ []) ≡ []
 more pieces piece none not =

@@ -1,7 +1,7 @@
 -- The places of chosen entries.
-use Rattle.std.proofs.Common.{◌≡◌, ◌+◌, ◌≤◌, ◌<◌, ℕ, zero, suc, List, [], ◌∷◌, ◌++◌, take, length, refl, sym, ap, subst, ◌∙◌, arith, inl, inr}
+use Rattle.std.proofs.Common.{◌≡◌, ◌+◌, ◌≤◌, ℕ, zero, suc, List, [], ◌∷◌, ◌++◌, take, length, refl, sym, ap, subst, ◌∙◌, arith, inl, inr}
 use Rattle.std.proofs.lemmas.Grind.{common_steps}
-use Rattle.std.proofs.lemmas.List.{length-append, length-map, map-append, take_at}
+use Rattle.std.proofs.lemmas.List.{length-map}
 use Rattle.irp_types.specs.declared.entry.Entry.{Entry}
 use Rattle.irp_page.specs.declared.choosing.Choice.{Choice}
 use Rattle.irp_page.specs.Choosing.{ArePlaces, IsDrawn, most_entries}
@@ -77,18 +77,3 @@ drafts_passed before after entries entry was choice counted passed kept = record
   kept = kept ∙ was.kept;
   counted = counted;
 }
-
--- nothing is kept behind as many as that
-pub kept_full : (count place : ℕ) (cards : List Picked) → length cards ≡ count → places_in cards ≡ take count (places_in cards ++ place ∷ [])
-kept_full count place cards full =
-    sym (take_at (places_in cards) (place ∷ []) count (length-map cards (λ (given : Picked). given.place) ∙ full))
-
-take_all : (count : ℕ) (places : List ℕ) → length places ≤ count → take count places ≡ places
-take_all count places few = grind (arith, common_steps)
-
--- one more is kept behind fewer
-pub kept_more : (count : ℕ) (cards : List Picked) (picked : Picked) → length cards < count → places_in (cards ++ picked ∷ []) ≡ take count (places_in cards ++ picked.place ∷ [])
-kept_more count cards picked few =
-    let size : length (places_in cards) ≡ length cards = length-map cards (λ (given : Picked). given.place) in
-    let short : length (places_in cards ++ picked.place ∷ []) ≤ count = omega (arith, size, few, length-append (places_in cards) (picked.place ∷ [])) in
-    map-append (λ (given : Picked). given.place) cards (picked ∷ []) ∙ sym (take_all count (places_in cards ++ picked.place ∷ []) short)

@@ -1,5 +1,5 @@
 -- One more line of a transcript that is shown.
-use Rattle.std.proofs.Common.{◌≡◌, ◌⊎◌, ℕ, ◌<◌, ◌≤◌, List, [], ◌∷◌, ◌++◌, length, take, drop, is_some, Bool, true, false, Option, Some, None, inl, inr, refl, sym, subst, ap, ◌∙◌, append_assoc, append-nil, arith}
+use Rattle.std.proofs.Common.{◌≡◌, ◌⊎◌, ℕ, List, [], ◌∷◌, ◌++◌, length, is_some, Bool, true, false, Option, Some, None, inl, inr, refl, sym, subst, ap, ◌∙◌, append_assoc, append-nil, arith}
 use mathlib.Core.Bool.{true≢false}
 use Rattle.std.proofs.lemmas.Grind.{common_steps}
 use Rattle.irp_types.specs.declared.entry.Entry.{Entry}
@@ -16,8 +16,6 @@ use Rattle.irp_view.specs.Listed.{IsGathered}
 use Rattle.irp_view.specs.Showing.{AreWordsFor, IsShowing, part_of}
 use Rattle.irp_view.specs.declared.orders.Span.{Span}
 use Rattle.irp_view.specs.declared.showing.Shown.{Shown}
-
--- ---- spans
 
 -- ---- word lines
 

@@ -1,15 +1,12 @@
 -- Refused calls that are counted, and of which the first ones are kept.
-use Rattle.std.proofs.Common.{◌≡◌, ◌+◌, ◌-◌, ◌≤◌, ◌<◌, ℕ, zero, suc, List, [], ◌∷◌, ◌++◌, take, length, refl, sym, ap, ◌∙◌, arith, append_assoc, append-nil, Option, None, Some, Result, Ok, Err}
-use Rattle.std.specs.Prelude.{OnOk, codes}
-use Rattle.std.specs.Fmt.{decimal}
-use Rattle.std.specs.List.{flat_map}
+use Rattle.std.proofs.Common.{◌≡◌, ◌+◌, ◌-◌, ◌≤◌, ℕ, zero, suc, List, [], ◌∷◌, ◌++◌, take, length, refl, sym, ap, ◌∙◌, arith, append_assoc, append-nil, Option, None, Some, Result, Ok, Err}
+use Rattle.std.specs.Prelude.{OnOk}
 use Rattle.std.proofs.lemmas.Grind.{common_steps}
 use Rattle.std.proofs.lemmas.List.{length-append, take_at}
 use Rattle.irp_types.specs.declared.entry.Entry.{Entry}
 use Rattle.irp_types.specs.declared.refusal.Refusal.{Refusal}
 use Rattle.irp_judge.specs.Differences.{refusal_in}
-use Rattle.irp_listing.specs.Lines.{line_of}
-use Rattle.irp_view.specs.RefusedCalls.{HasNoted, more_text, most_told, refused_at, refused_from, refused_line, refused_text}
+use Rattle.irp_view.specs.RefusedCalls.{HasNoted, most_told, refused_at, refused_from}
 use Rattle.irp_view.specs.declared.refused_calls.RefusedCalls.{RefusedCalls}
 
 -- one entry more
@@ -74,8 +71,6 @@ notes_refused before after entries entry refusal was is came count first =
 -- nothing is kept behind as many as that
 pub kept_full : (count : ℕ) (items more : List (ℕ × Refusal)) → length items ≡ count → items ≡ take count (items ++ more)
 kept_full count items more full = sym (take_at items more count full)
-
--- ---- the line
 
 -- two facts about what went well
 pub on_ok_both : {T E P Q R : Type 0} (result : Result T E) → (P → Q → R) → OnOk result P → OnOk result Q → OnOk result R

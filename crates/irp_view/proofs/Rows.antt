@@ -1,16 +1,12 @@
 -- Rows that were put one behind the other.
-use Rattle.std.proofs.Common.{◌≡◌, ℕ, true, false, List, [], ◌++◌, Option, None, Some, refl, sym, ap, ◌∙◌, append_assoc, append-nil}
+use Rattle.std.proofs.Common.{◌≡◌, ℕ, true, false, List, ◌++◌, Option, Some, refl, ap, ◌∙◌, append_assoc}
 use Rattle.irp_types.specs.declared.entry.Entry.{Entry}
-use Rattle.irp_judge.specs.declared.cause.Cause.{Cause}
 use Rattle.irp_judge.specs.declared.verdict.Wrong.{Wrong}
 use Rattle.irp_listing.specs.Heads.{caller_text}
 use Rattle.irp_listing.specs.Lines.{row_of}
 use Rattle.irp_view.specs.Parts.{part_text, value_text}
 use Rattle.irp_view.specs.Blocks as spec
-use Rattle.irp_view.specs.Blocks.{AddsCause, AddsHead, AddsRow, AddsRows, AddsSection, AddsWhy, cause_told, head_of, see_row, why_row}
-use Rattle.irp_view.specs.Sections.{section_of}
-use Rattle.irp_view.specs.declared.sections.Section.{Section}
-use Rattle.std.specs.Prelude.{IfSome}
+use Rattle.irp_view.specs.Blocks.{AddsHead, AddsRow, AddsRows, head_of}
 
 -- what was put behind what was put
 pub behind : (x y z one other : List ℕ) → y ≡ x ++ one → z ≡ y ++ other → z ≡ x ++ (one ++ other)

@@ -1,6 +1,5 @@
 //! The tables of names as JSON, for programs that write other lists or compare them. Source: this project's own format.
 
-ghost use Rattle.std.specs.Prelude.{IfOk};
 ghost use Rattle.irp_words.specs.Telling.{PrintsWhole};
 
 use crate::ending::Ending;
