@@ -72,7 +72,7 @@ pub told_of_warnings : (label : ℕ) (found : List Warning)
 told_of_warnings label [] = refl
 told_of_warnings label (warning ∷ others) = ap (λ rest. tells_of label warning.concern || rest) (told_of_warnings label others)
 
-hint : Section → ℕ → Concern → Hint
+abbrev hint : Section → ℕ → Concern → Hint
 hint section index concern = record { section = section; index = index; concern = concern }
 
 with_room : (more told : List Hint) → length told < 100 → with_hints more told ≡ told ++ more

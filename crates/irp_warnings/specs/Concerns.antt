@@ -137,10 +137,13 @@ of_call script run (call.CallDriver party irp target) (Status status) =
     no_lower script run.entries
 of_call script run other reply = None
 
+abbrev pub of_reply : ScriptParts → RunValue → StepAct → Reply → Option Concern
+of_reply script run (Call made) reply = of_call script run made reply
+of_reply script run other reply = None
+
 abbrev pub of_given : ScriptParts → RunValue → StepAct → ℕ → Answered → Option Concern
-of_given script run (Call made) seat (Replied reply) = of_call script run made reply
+of_given script run act seat (Replied reply) = of_reply script run act reply
 of_given script run act seat (Word reply) = not_held act seat reply
-of_given script run act seat other = None
 
 abbrev pub of_answer : ScriptParts → RunValue → List Hint → Step → Answered → Option Concern
 of_answer script run told step answer =

@@ -78,7 +78,7 @@ pub record IsCourse (script : ScriptParts) (course : List MadeStep) : Type 0 whe
   pub ended : RunValue
   pub steps_made : AreMade script Steps (steps_run opened) steps ended
   pub steps_whole : length steps ≡ length script.steps
-  pub course : course ≡ steps ++ setup
+  pub is : course ≡ steps ++ setup
 
 -- ---- warnings
 

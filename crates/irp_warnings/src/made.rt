@@ -1,6 +1,6 @@
 //! What isn't meant in the steps of a script, by what they are answered as they are made in the order of the text.
 
-ghost use Rattle.std.specs.Prelude.{◌≡◌, IfOk, slice_get};
+ghost use Rattle.std.specs.Prelude.{◌≡◌, IfOk, false, slice_get};
 ghost use Rattle.std.specs.List.{find};
 ghost use Rattle.std.specs.Option.{option_map_or};
 ghost use Rattle.irp_types.specs.Descent.{is_passing};
@@ -101,10 +101,9 @@ fn of_answer(
     if let Some(label) = unbound_in(run.standing(), told, step.act) {
         return Some(Concern::Unbound { label });
     }
-    match (step.act, answer) {
-        (StepAct::Call(call), Answered::Reply(reply)) => of_call(run, script, known, call, reply),
-        (act, Answered::Word(reply)) => not_held(act, step.seat, reply),
-        _ => None,
+    match answer {
+        Answered::Reply(reply) => of_reply(run, script, known, step.act, reply),
+        Answered::Word(reply) => not_held(step.act, step.seat, reply),
     }
 }
 
@@ -145,6 +144,23 @@ fn not_held(act: StepAct, seat: u32, reply: WordReply) -> Option<Concern>
             | StepAct::Hand(Hand { lock, .. }),
             WordReply::NotHeld | WordReply::NoLock,
         ) => Some(Concern::NotHeld { seat, lock }),
+        _ => None,
+    }
+}
+
+/// What isn't meant in a step that the manager answered so, if anything.
+fn of_reply(
+    run: &Run,
+    script: &ScriptParts,
+    known: Known,
+    act: StepAct,
+    reply: Reply,
+) -> Option<Concern>
+    requires { known ≡ known_of script.now }
+    ensures { result ≡ spec.of_reply script.now run.now act reply }
+{
+    match act {
+        StepAct::Call(call) => of_call(run, script, known, call, reply),
         _ => None,
     }
 }
