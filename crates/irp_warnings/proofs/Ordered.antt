@@ -1,20 +1,23 @@
 -- Warnings in the order of the text.
-use Rattle.std.proofs.Common.{◌≡◌, ℕ, ◌+◌, ◌<◌, ◌≤◌, ◌||◌, Bool, true, false, List, [], ◌∷◌, ◌++◌, length, map, take, get_or, slice_get, if◌then◌else◌, nat_lt, Option, Some, None, All, AllPairs, refl, sym, ap, subst, ◌∙◌, arith, append-nil, length-append, length-take, take_all, lt-ltb, le-ltb, ltb-true, ltb-false}
+use Rattle.std.proofs.Common.{◌≡◌, ℕ, ◌+◌, ◌<◌, ◌≤◌, ◌||◌, Bool, true, false, List, [], ◌∷◌, ◌++◌, length, take, get_or, slice_get, if◌then◌else◌, nat_lt, Option, Some, None, All, AllPairs, refl, sym, ap, subst, ◌∙◌, arith, append-nil, length-append, length-take, take_all, lt-ltb, le-ltb, ltb-true, ltb-false}
 use Rattle.std.specs.List.{list_any}
 use Rattle.std.proofs.lemmas.List.{map-append, take-append-le, length-map}
 use Rattle.std.proofs.lemmas.List.Elements.{All-push}
 use Rattle.std.proofs.lemmas.List.Quantifiers.{all_pairs_push}
-use Rattle.std.proofs.lemmas.Option.{none-some}
+use Rattle.std.proofs.lemmas.Option.{none-some, slice_get-get_or}
+use Rattle.irp_transcript.specs.declared.header.Header.{Header}
 use Rattle.irp_script_reader.specs.declared.act.Step.{Step}
 use Rattle.irp_script_reader.specs.declared.refusal.Section.{Section}
+use Rattle.irp_script_reader.specs.declared.refusal.Section.TheVariants.{Setup, Steps}
 use Rattle.irp_script_reader.specs.declared.script.ScriptParts.{ScriptParts}
 use Rattle.irp_plain.specs.declared.answered.Answered.{Answered}
 use Rattle.irp_plain.specs.declared.parts.After.{After}
+use Rattle.irp_machine.specs.Headers.{IsHeaderOf}
 use Rattle.irp_machine.specs.Machine.{act_of}
-use Rattle.irp_machine.specs.Runs.{RunValue, RunsOn, act_in}
+use Rattle.irp_machine.specs.Runs.{RunValue, RunsOn, act_in, setup_run, steps_run}
 use Rattle.irp_machine.specs.declared.parts.Planned.{Planned}
 use Rattle.irp_warnings.specs.Concerns.{Hint, concern_of, is_told, tells_of}
-use Rattle.irp_warnings.specs.Warned.{AreFirst, AreInOrder, Goes, IsMade, IsThere, MadeStep, Plays, hint_of, hinted, hints, hints_in, hints_of, place_in, place_of, steps_in, with_hints}
+use Rattle.irp_warnings.specs.Warned.{AreFirst, AreInOrder, AreMade, AreWarnings, Goes, IsCourse, IsMade, IsThere, MadeStep, Plays, hint_of, hinted, hints, hints_in, hints_of, place_in, place_of, steps_in, tells, with_hints}
 use Rattle.irp_warnings.specs.declared.warning.Concern.{Concern}
 use Rattle.irp_warnings.specs.declared.warning.Warning.{Warning}
 
@@ -68,7 +71,7 @@ hinted_once section index (Some concern) = omega arith
 -- ---- what is told
 
 pub told_of_warnings : (label : ℕ) (found : List Warning)
-    → list_any (λ (warning : Warning). tells_of label warning.concern) found ≡ is_told (hints_of found) label
+    → list_any (tells label) found ≡ is_told (hints_of found) label
 told_of_warnings label [] = refl
 told_of_warnings label (warning ∷ others) = ap (λ rest. tells_of label warning.concern || rest) (told_of_warnings label others)
 
@@ -147,15 +150,45 @@ told_more script section index (Some concern) old new there is told =
 -- ---- a step more
 
 -- one more step was made, and what isn't meant in it is told
-pub goes_on : (script : ScriptParts) (section : Section) (start before run : RunValue) (first old new : List Warning) (index : ℕ) (step : Step)
-    (answer : Option Answered) → slice_get (steps_in script section) index ≡ Some step → IsMade before step.seat index answer run
-    → hints_of new ≡ with_hints (hinted section index (concern_of script run (hints_of old) step answer)) (hints_of old)
+pub goes_on : (script : ScriptParts) (section : Section) (start before run : RunValue) (first old new told : List Warning) (steps : List Step) (index : ℕ)
+    (d : Step) (answer : Option Answered) (concern : Option Concern) → steps ≡ steps_in script section → index < length steps
+    → IsMade before (get_or steps index d).seat index answer run → told ≡ old
+    → concern ≡ concern_of script run (hints_of told) (get_or steps index d) answer
+    → hints_of new ≡ with_hints (hinted section index concern) (hints_of old)
     → Goes script section start first index before old → Goes script section start first (index + 1) run new
-goes_on script section start before run first old new index step answer there made is goes = λ earlier so.
+goes_on script section start before run first old new told steps index d answer concern in_script few made same meant is goes = λ earlier so.
+    let step = get_or steps index d in
     let far = goes earlier so in
     let one : MadeStep = record { section = section; index = index; step = step; answer = answer; run = run } in
-    let more = first_100 (hints script (far.0 ++ earlier)) (hints_of old) (hints_in script one) (λ told. hinted_once section index (concern_of script run told step answer)) far.3 in
-    (one ∷ far.0, (before, far.1, refl, sym far.2, there, made, refl), omega (arith, far.2), is ∙ more)
+    let there = subst (λ (steps : List Step). slice_get steps index ≡ Some step) in_script (slice_get-get_or steps index d few) in
+    let meant_now : concern ≡ concern_of script run (hints_of old) step answer =
+    meant ∙ ap (λ (told : List Warning). concern_of script run (hints_of told) step answer) same in
+    let told_now : hints_of new ≡ with_hints (hints_in script one (hints_of old)) (hints_of old) =
+    is ∙ ap (λ (concern : Option Concern). with_hints (hinted section index concern) (hints_of old)) meant_now in
+    let more =
+    first_100 (hints script (far.0 ++ earlier)) (hints_of old) (hints_in script one)
+    (λ told. hinted_once section index (concern_of script run told step answer)) far.3 in
+    (one ∷ far.0, (before, far.1, refl, sym far.2, there, made, refl), omega (arith, far.2), told_now ∙ more)
 
-pub goes_first : (script : ScriptParts) (section : Section) (start : RunValue) (found : List Warning) → Goes script section start found 0 start found
-goes_first script section start found earlier so = ([], refl, refl, so)
+-- the setup was made, and then the steps
+pub course_of : (script : ScriptParts) (header : Header) (none first second : List Warning) (start opened begun last : RunValue) → IsHeaderOf script header
+    → none ≡ [] → start ≡ setup_run header script → Goes script Setup start none (length script.setup) opened first → begun ≡ steps_run opened
+    → Goes script Steps begun first (length script.steps) last second → AreWarnings script second
+course_of script header none first second start opened begun last headed empty starts setup begins steps =
+    let so : AreFirst script [] none = ap hints_of empty ∙ sym (take_all 100 [] (omega arith)) in
+    let before = setup [] so in
+    let behind = steps (before.0 ++ []) before.3 in
+    let course : IsCourse script (behind.0 ++ (before.0 ++ [])) = record {
+      header = header;
+      headed = headed;
+      setup = before.0;
+      opened = opened;
+      setup_made = subst (λ (start : RunValue). AreMade script Setup start before.0 opened) starts before.1;
+      setup_whole = before.2;
+      steps = behind.0;
+      ended = last;
+      steps_made = subst (λ (start : RunValue). AreMade script Steps start behind.0 last) begins behind.1;
+      steps_whole = behind.2;
+      is = ap (λ (setup : List MadeStep). behind.0 ++ setup) (append-nil before.0);
+    } in
+    (behind.0 ++ (before.0 ++ []), course, behind.3)

@@ -1,5 +1,5 @@
 -- What is warned of a script, by a run of it in the order of its text.
-use Rattle.std.specs.Prelude.{ℕ, ◌≡◌, ◌+◌, ◌<◌, ◌≤◌, if◌then◌else◌, nat_lt, List, [], ◌∷◌, ◌++◌, length, map, take, slice_get, All, Option, Some, None}
+use Rattle.std.specs.Prelude.{ℕ, ◌≡◌, ◌+◌, ◌<◌, ◌≤◌, if◌then◌else◌, nat_lt, Bool, List, [], ◌∷◌, ◌++◌, length, map, take, slice_get, All, Option, Some, None}
 use Rattle.std.specs.List.{AllPairs}
 use Rattle.irp_transcript.specs.declared.header.Header.{Header}
 use Rattle.irp_script_reader.specs.declared.act.Step.{Step}
@@ -12,7 +12,7 @@ use Rattle.irp_plain.specs.declared.parts.After.TheVariants.{Told, Binds}
 use Rattle.irp_machine.specs.Headers.{IsHeaderOf}
 use Rattle.irp_machine.specs.Machine.{act_of}
 use Rattle.irp_machine.specs.Runs.{RunValue, RunsOn, act_in, setup_run, steps_run}
-use Rattle.irp_warnings.specs.Concerns.{Hint, concern_of}
+use Rattle.irp_warnings.specs.Concerns.{Hint, concern_of, tells_of}
 use Rattle.irp_warnings.specs.declared.warning.Concern.{Concern}
 use Rattle.irp_warnings.specs.declared.warning.Warning.{Warning}
 
@@ -88,6 +88,10 @@ hint_of warning = record { section = warning.section; index = warning.index; con
 
 abbrev pub hints_of : List Warning → List Hint
 hints_of found = map hint_of found
+
+-- a warning tells that this label isn't bound
+abbrev pub tells : ℕ → Warning → Bool
+tells label warning = tells_of label warning.concern
 
 -- this concern of a step, if any
 abbrev pub hinted : Section → ℕ → Option Concern → List Hint

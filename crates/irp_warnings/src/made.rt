@@ -1,12 +1,12 @@
 //! What isn't meant in the steps of a script, by what they are answered as they are made in the order of the text.
 
 ghost use Rattle.std.specs.Prelude.{◌≡◌, IfOk, false, slice_get};
-ghost use Rattle.std.specs.List.{find};
+ghost use Rattle.std.specs.List.{find, list_any};
 ghost use Rattle.std.specs.Option.{option_map_or};
 ghost use Rattle.irp_types.specs.Descent.{is_passing};
 ghost use Rattle.irp_script_reader.specs.Sound.{known_of};
 ghost use Rattle.irp_warnings.specs.Concerns as spec;
-ghost use Rattle.irp_warnings.specs.Warned.{IsMade, answer_behind, hints_of};
+ghost use Rattle.irp_warnings.specs.Warned.{IsMade, answer_behind, hints_of, tells};
 
 use crate::conditions::may_be_answered;
 use crate::warning::{Concern, Warning};
@@ -59,7 +59,7 @@ pub fn answer_of<'a>(
 
 /// Whether a warning tells that this label isn't bound.
 fn tells_of(warning: &Warning, label: usize) -> bool
-    ensures { result ≡ spec.tells_of label warning.now.concern }
+    ensures { result ≡ tells label warning.now }
 {
     match warning.concern {
         Concern::Unbound { label: one } => one == label,
@@ -68,11 +68,17 @@ fn tells_of(warning: &Warning, label: usize) -> bool
 }
 
 /// Whether one of these does.
-#[tactic(auto, using(crate::proofs::Ordered::told_of_warnings))]
+fn any_tells(told: &[Warning], label: usize) -> bool
+    ensures { result ≡ list_any (tells label) told.now }
+{
+    told.iter().any(|warning| tells_of(warning, label))
+}
+
+/// Whether it is told that this label isn't bound.
 fn is_told(told: &[Warning], label: usize) -> bool
     ensures { result ≡ spec.is_told (hints_of told.now) label }
 {
-    told.iter().any(|warning| tells_of(warning, label))
+    any_tells(told, label)
 }
 
 /// The label that an act names, where it isn't bound, and no warning tells of it: its packet's use would have number 0.

@@ -1,4 +1,3 @@
-use Rattle.std.proofs.Common.{◌≡◌}
 use Rattle.irp_warnings.specs.Warned.{AreInOrder, Goes, place_in}
 use Rattle.irp_warnings.proofs.warned.add_warnings.Given as goal
 
