@@ -25,7 +25,7 @@ returns g c =
     let reply = rw c.as_slice.ensures.value at (rw c.in-Some.is at c.in_ok-reply.ensures) in
     let broken = rw c.as_slice-in-Some.ensures.value at c.in-Err.ensures.err in
     let put = subst (BreaksOff c.in-Some.said.items (g.O.Out.gone c.args.output.now) (g.O.Out.gone c.send.new.output)
-        (g.O.Out.failures c.args.output.now) (g.O.Out.failures c.send.new.output)) c.in-Err.ensures.fault broken in
+    (g.O.Out.failures c.args.output.now) (g.O.Out.failures c.send.new.output)) c.in-Err.ensures.fault broken in
     interrupted c.args.number (session_of c.args.session.now) (session_of c.reply.new.self)
     (streams_of (g.R.Read.remaining c.args.input.now) (g.O.Out.gone c.args.output.now) (g.O.Out.failures c.args.output.now))
     (streams_of (g.R.Read.remaining c.read_line.new.input) (g.O.Out.gone c.send.new.output) (g.O.Out.failures c.send.new.output))
