@@ -4,5 +4,7 @@
 mod conditions;
 mod made;
 mod warned;
+mod warning;
 
-pub use warned::{Warning, warnings};
+pub use warned::warnings;
+pub use warning::Warning;

@@ -1,69 +1,35 @@
 //! What of a script that is taken is hardly meant: calls that the manager will refuse, or that go another way than they
 //! look. Steps are followed in the order of the text. Source: this project's own rule.
 
-use crate::made::{Concern, answer_of, concern_of};
+ghost use Rattle.std.specs.Prelude.{◌≡◌, ◌+◌, IfOk, OnOk, length};
+ghost use Rattle.irp_script_reader.specs.Sound.{known_of};
+ghost use Rattle.irp_warnings.specs.Warned as spec;
+ghost use Rattle.irp_warnings.specs.Warned.{AreInOrder, AreWarnings, Goes, hinted, hints_of, place_in, with_hints};
+
+use crate::made::{answer_of, concern_of};
+use crate::warning::{Concern, Warning};
 use Piece::{Number, Say, Show};
+use irp_forms::HasName;
 use irp_machine::{Run, header_of};
-use irp_names::{Sink, major_name};
+use irp_names::major_name;
 use irp_script_reader::{Script, ScriptParts, Section, Step};
-use irp_text_faults::{
-    Finding, Node, Piece, Place, key_of, put_place, put_section, there_are, tokens_of,
-};
-use irp_types::{DeviceId, DispatchId, LockNo, Rule};
+use irp_text_faults::{Finding, Node, Piece, key_of, there_are, tokens_of};
+use irp_types::{DeviceId, DispatchId, Known, LockNo};
 use std::alloc::{AllocError, Global};
 
 /// The most warnings that are told.
 const MOST_WARNINGS: usize = 100;
 
-/// One thing in a script that is taken, and is hardly meant.
-#[derive(Drop)]
-pub struct Warning {
-    /// The list with the step, `setup` or `steps`.
-    pub section: Section,
-    /// The step's place in the list, from 0.
-    pub index: usize,
-    /// Where it stands.
-    pub place: Place,
-    /// What isn't meant.
-    words: String,
-}
-
-impl Warning {
-    /// Puts the message, in one line without a newline, which begins with `warning: `.
-    pub fn write(&self, out: &mut Sink) {
-        self.write_at(out, self.place);
-    }
-
-    /// The same, with another place: that of the step in the text from which the JSON was made.
-    pub fn write_at(&self, out: &mut Sink, place: Place) {
-        out.put("warning: ");
-        put_section(out, self.section, self.index);
-        put_place(out, place);
-        out.put(self.words.as_str());
-    }
-}
-
 /// The key under which it stands that isn't meant.
 fn key_of_concern(concern: Concern) -> &'static str {
     match concern {
-        Concern::Unbound => "irp",
-        Concern::NoRoutine { .. } => "set",
-        Concern::NoCancel { .. } => "cancel",
+        Concern::Unbound { .. } => "irp",
+        Concern::NoRoutine { rule: Some(_), .. } => "set",
+        Concern::NoRoutine { rule: None, .. } => "cancel",
         Concern::TooShort { .. } | Concern::NoLower { .. } => "target",
         Concern::Attached => "device",
         Concern::NotHeld { .. } => "tag",
         Concern::NeverAnswered { .. } => "if",
-    }
-}
-
-/// The word of a rule.
-fn rule_word(rule: Rule) -> &'static str {
-    match rule {
-        Rule::Watch => "watch",
-        Rule::Change => "change",
-        Rule::Keeper => "keeper",
-        Rule::KeepOnError => "keep_on_error",
-        Rule::Free => "free",
     }
 }
 
@@ -129,7 +95,7 @@ fn tell_not_held(found: &mut Finding, node: Node, seat: u32, lock: LockNo) -> bo
 /// Says what isn't meant at this place. It is false.
 fn tell(found: &mut Finding, node: Node, concern: Concern) -> bool {
     match concern {
-        Concern::Unbound => {
+        Concern::Unbound { .. } => {
             let words = "no allocate before this step binds the label ";
             found.wrong(node, &[Say(words), Show(node.span())])
         }
@@ -137,21 +103,9 @@ fn tell(found: &mut Finding, node: Node, concern: Concern) -> bool {
             rule,
             number,
             count,
-        } => there_are(
-            found,
-            node,
-            rule_word(rule),
-            u64::from(number),
-            u64::from(count),
-        ),
-        Concern::NoCancel { number, count } => {
-            there_are(
-                found,
-                node,
-                "cancel routine",
-                u64::from(number),
-                count as u64,
-            )
+        } => {
+            let what = rule.map_or("cancel routine", |rule| rule.name());
+            there_are(found, node, what, u64::from(number), u64::from(count))
         }
         Concern::TooShort { size, devices } => tell_too_short(found, node, size, devices),
         Concern::NoLower {
@@ -185,7 +139,10 @@ fn warning_of(
     section: Section,
     index: usize,
     concern: Concern,
-) -> Result<Warning, AllocError> {
+) -> Result<Warning, AllocError>
+    ensures { IfOk result (λ warning. (warning.section ≡ section) × (warning.index ≡ index)
+        × (warning.concern ≡ concern)) }
+{
     let mut found = Finding::new(alloc, whole.text);
     tell(&mut found, node_of(whole, section, index, concern), concern);
     let place = found.place();
@@ -194,15 +151,19 @@ fn warning_of(
         section,
         index,
         place,
+        concern,
         words,
     })
 }
 
 /// The steps of a list.
-fn steps_in(script: &ScriptParts, section: Section) -> &[Step] {
+fn steps_in(script: &ScriptParts, section: Section) -> &[Step]
+    ensures { result.now ≡ spec.steps_in script.now section }
+{
     match section {
         Section::Setup => script.setup.as_slice(),
-        _ => script.steps.as_slice(),
+        Section::Steps => script.steps.as_slice(),
+        _ => &[],
     }
 }
 
@@ -213,7 +174,10 @@ fn add_warning(
     section: Section,
     index: usize,
     concern: Option<Concern>,
-) -> Result<(), AllocError> {
+) -> Result<(), AllocError>
+    ensures { OnOk result (hints_of found.new.items
+        ≡ with_hints (hinted section index concern) (hints_of found.old.items)) }
+{
     if let Some(concern) = concern {
         if found.len() < MOST_WARNINGS {
             let alloc = *found.allocator();
@@ -226,18 +190,26 @@ fn add_warning(
 /// Makes the steps of a list, and puts what is warned of. The one error is want of memory.
 fn add_warnings<'a>(
     found: &mut Vec<Warning>,
-    told: &mut Vec<bool>,
     start: Run<'a>,
     script: &ScriptParts,
+    known: Known,
     whole: Node,
     section: Section,
-) -> Result<Run<'a>, AllocError> {
+) -> Result<Run<'a>, AllocError>
+    requires known { known ≡ known_of script.now }
+    requires order { AreInOrder script.now (place_in script.now section 0) found.old.items }
+    ensures goes { IfOk result (λ run. Goes script.now section start.entry found.old.items
+        (length (spec.steps_in script.now section)) run found.new.items) }
+    ensures order { OnOk result (AreInOrder script.now
+        (place_in script.now section (length (spec.steps_in script.now section))) found.new.items) }
+{
     let steps = steps_in(script, section);
     let mut run = start;
     for index in 0..steps.len() {
-        let (next, answer) = answer_of(run, index, steps[index].seat)?;
+        let step = &steps[index];
+        let (next, answer) = answer_of(run, index, step.seat)?;
         run = next;
-        let concern = concern_of(&run, script, told, &steps[index], answer);
+        let concern = concern_of(&run, script, known, found, step, answer);
         add_warning(found, whole, section, index, concern)?;
     }
     Ok(run)
@@ -253,7 +225,11 @@ fn add_warnings<'a>(
 /// # Errors
 ///
 /// Memory runs out.
-pub fn warnings(alloc: Global, text: &[u8], script: &Script) -> Result<Vec<Warning>, AllocError> {
+pub fn warnings(alloc: Global, text: &[u8], script: &Script) -> Result<Vec<Warning>, AllocError>
+    ensures order { IfOk result (λ found.
+        AreInOrder script.now (length script.now.setup + length script.now.steps) found.items) }
+    ensures warnings { IfOk result (λ found. AreWarnings script.now found.items) }
+{
     let tokens = tokens_of(alloc, text)?;
     let whole = Node {
         text,
@@ -262,11 +238,11 @@ pub fn warnings(alloc: Global, text: &[u8], script: &Script) -> Result<Vec<Warni
     };
     let parts = script.parts();
     let header = header_of(alloc, parts)?;
-    let mut told = Vec::from_elem(alloc, false, parts.labels.len())?;
+    let known = header.completions;
     let mut found = Vec::new(alloc);
     let run = Run::new(alloc, &header, parts)?;
-    let run = add_warnings(&mut found, &mut told, run, parts, whole, Section::Setup)?;
+    let run = add_warnings(&mut found, run, parts, known, whole, Section::Setup)?;
     let run = run.behind(alloc)?;
-    let _run = add_warnings(&mut found, &mut told, run, parts, whole, Section::Steps)?;
+    let _run = add_warnings(&mut found, run, parts, known, whole, Section::Steps)?;
     Ok(found)
 }
