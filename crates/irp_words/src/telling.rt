@@ -68,7 +68,10 @@ pub fn tell_json<O: Out, E: Out>(
     ensures { Prints result (O.gone output.old) (O.gone output.new) }
 {
     match told_of(alloc, text) {
-        Ok(told) => send_text(output, told.text.as_bytes(), Ending::Done),
+        Ok(told) => match put_all(output, told.text.as_bytes()) {
+            Ok(()) => Ending::Done,
+            Err(_) => Ending::Failed,
+        },
         Err(untold) => tell_untold(alloc, errors, untold),
     }
 }
