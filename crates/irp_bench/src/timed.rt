@@ -8,6 +8,7 @@ use std::sync::Wait;
 use std::thread::Threads;
 use std::time::Duration;
 use std::{fmt, io};
+use thiserror::Error;
 
 /// The runtime of the loads that start threads, or wait for a turn.
 pub trait Host: Threads + Wait + Sync + Clock + AllocGlobal {}
@@ -17,32 +18,22 @@ impl<R: Threads + Wait + Sync + Clock + AllocGlobal> Host for R {}
 /// What is timed, or else why it isn't.
 pub type Timed<T> = Result<T, NotTimed>;
 
-/// Why the program ends before all is timed (this project's own command line, README.md).
-#[derive(Clone, Copy)]
+/// Why the program ends before all is timed: the exit status, and the line for standard error (this project's own
+/// command line, README.md).
+#[derive(Clone, Copy, Debug, Error)]
 pub enum NotTimed {
     /// A transcript was not judged legal.
-    NotLegal,
+    #[error("irp_bench: a transcript was not judged legal")]
+    NotLegal = 2,
     /// Memory ran out.
-    Memory,
+    #[error("irp_bench: out of memory")]
+    Memory = 3,
     /// The words are none that the program takes; a request for help is one of these.
-    Usage,
+    #[error("irp_bench: usage: irp_bench [locks|slots|calls|write|read|check]")]
+    Usage = 4,
     /// The clock or standard error failed, or a call or a text was not what it should be.
-    Failed,
-}
-
-impl NotTimed {
-    /// The exit status, and the line for standard error.
-    pub fn told(self) -> (u8, &'static str) {
-        match self {
-            NotTimed::NotLegal => (2, "irp_bench: a transcript was not judged legal"),
-            NotTimed::Memory => (3, "irp_bench: out of memory"),
-            NotTimed::Usage => (
-                4,
-                "irp_bench: usage: irp_bench [locks|slots|calls|write|read|check]",
-            ),
-            NotTimed::Failed => (5, "irp_bench: the clock, the output or a call failed"),
-        }
-    }
+    #[error("irp_bench: the clock, the output or a call failed")]
+    Failed = 5,
 }
 
 impl From<AllocError> for NotTimed {
@@ -72,33 +63,25 @@ impl From<ReadFault> for NotTimed {
     }
 }
 
-/// What a load did, and how long it took.
-#[derive(Clone, Copy)]
+/// What a load did, and how long it took. The least of several is the one that took least.
+#[derive(Clone, Copy, PartialEq, Eq, PartialOrd, Ord)]
 pub struct Done {
+    taken: Duration,
     /// How often it did what it is named for. Where there are more threads, each did so many pairs, and all together so
     /// many calls.
     count: u32,
     /// How many bytes the texts have that it wrote or read.
     bytes: u64,
-    taken: Duration,
 }
 
 impl Done {
     /// So often, with texts of so many bytes, in this time.
     pub fn of(count: u32, bytes: u64, taken: Duration) -> Done {
         Done {
+            taken,
             count,
             bytes,
-            taken,
         }
-    }
-
-    /// The one of both that took less.
-    pub fn min(self, other: Done) -> Done {
-        if other.taken < self.taken {
-            return other;
-        }
-        self
     }
 
     /// How many nanoseconds it took each time.
