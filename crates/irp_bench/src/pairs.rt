@@ -16,13 +16,8 @@ use std::time::{Duration, Instant};
 
 /// How many pairs a thread makes on the lock.
 const PAIRS: u32 = 2_000_000;
-
-/// The lock.
-const LOCK: LockNo = LockNo(0);
-
 /// How often so many slots are opened. A slot takes one publication in its life.
 const TABLES: u32 = 16_000;
-
 /// The packet that each owner publishes.
 const PACKET: IrpRef = IrpRef { slot: 0, use_no: 1 };
 
@@ -44,8 +39,9 @@ fn hold_all(locks: &Locks, seat: &mut RemoveSeat) -> Timed<()>
     requires empty { seat.old.held ≡ [] }
     ensures { seat.new.held ≡ [] }
 {
+    let lock = LockNo(0);
     for tag in 0..PAIRS {
-        if locks.acquire(seat, LOCK, tag).is_err() || locks.release(seat, LOCK, tag).is_err() {
+        if locks.acquire(seat, lock, tag).is_err() || locks.release(seat, lock, tag).is_err() {
             return Err(NotTimed::Failed);
         }
     }
@@ -67,9 +63,8 @@ pub fn time_threads<R: Threads + Sync + Clock + AllocGlobal>(
     is_bare: bool,
     threads: u32,
 ) -> Timed<Done> {
-    let Ok((locks, seats)) = irp_remove::open(rt.alloc(), 1, threads) else {
-        return Err(NotTimed::Memory);
-    };
+    let opened = irp_remove::open(rt.alloc(), 1, threads);
+    let (locks, seats) = opened.map_err(|_| NotTimed::Memory)?;
     let (shared, word) = (&locks, &AtomicU64::new(0));
     let each = &|mut seat: RemoveSeat| -> Timed<()>
         requires { IsSeatOf shared.now seat × (seat.held ≡ []) }
@@ -132,12 +127,9 @@ fn swap_all(word: &AtomicU64, count: usize) {
 pub fn time_slots<R: Clock + AllocGlobal>(rt: &R, pair: Pair, slots: u32) -> Timed<Done> {
     let mut taken = Duration::ZERO;
     for _ in 0..TABLES {
-        let Ok((opened, mut owners, mut cancellers)) = irp_slots::open(rt.alloc(), slots, 1) else {
-            return Err(NotTimed::Memory);
-        };
-        let Some(mut canceller) = cancellers.pop() else {
-            return Err(NotTimed::Failed);
-        };
+        let opened = irp_slots::open(rt.alloc(), slots, 1);
+        let (opened, mut owners, mut cancellers) = opened.map_err(|_| NotTimed::Memory)?;
+        let mut canceller = cancellers.pop().ok_or(NotTimed::Failed)?;
         let word = AtomicU64::new(0);
         let start = Instant::now(rt)?;
         match pair {
