@@ -19,13 +19,8 @@ use std::time::Instant;
 
 /// How many lines' values are written by `serde_json` alone.
 const LINES: usize = 10_000;
-
 /// How many bytes a block has, but for the last one.
 const BLOCK: usize = 262_144;
-
-/// The highest of the four devices that the packet is sent through.
-const TOP: DeviceId = DeviceId(3);
-
 /// How many calls come first: four devices are created, three attached, and a packet is allocated.
 const FIRST_CALLS: u32 = 8;
 
@@ -56,7 +51,7 @@ pub struct Sample {
     bytes: u64,
 }
 
-/// What came of a task; `Count` is of bytes that were written, or of lines that were read.
+/// What came of a task; `Count` is of bytes that were written or read.
 #[derive(Drop)]
 enum Made {
     Text(Vec<u8>),
@@ -99,23 +94,15 @@ fn text(alloc: Global, transcript: &Transcript, room: usize) -> Timed<Vec<u8>>
     }
 }
 
-/// The values of the text's first lines, and how many bytes these lines have. That a line isn't read is for want of
-/// memory.
+/// The values of the text's first lines, and how many bytes these lines have.
 fn first_values(alloc: Global, text: &[u8]) -> Timed<(Vec<Value>, u64)> {
     let mut values = Vec::new(alloc);
     let mut bytes: u64 = 0;
-    for line in text.split_inclusive(|&byte| byte == b'\n') {
-        if values.len() == LINES {
-            return Ok((values, bytes));
-        }
-        let Ok(value) = Value::from_slice(alloc, line) else {
-            return Err(NotTimed::Memory);
-        };
-        values.reserve(1)?;
-        values.push_reserved(value);
+    for line in text.split_inclusive(|&byte| byte == b'\n').take(LINES) {
+        values.push(Value::from_slice(alloc, line).map_err(|_| NotTimed::Memory)?)?;
         bytes = bytes.saturating_add(line.len() as u64);
     }
-    Err(NotTimed::Failed)
+    Ok((values, bytes))
 }
 
 /// A transcript of so many entries, and its text: in a session of one seat, a packet is sent through four devices again
@@ -126,14 +113,13 @@ pub fn record_sample<R: Host>(rt: &R, entries: u32) -> Timed<Sample>
     ensures { IfOk result (λ sample. sample.text.items ≡ text_of (lines sample.transcript)) }
 {
     let times = entries.saturating_sub(FIRST_CALLS) / 4;
-    let Some(transcript) = do_work(rt, Some(1), Work::Sends(TOP, 1, times))?.1 else {
-        return Err(NotTimed::Failed);
-    };
-    if transcript.entries().len() != entries as usize {
-        return Err(NotTimed::Failed);
-    }
+    let sent = do_work(rt, Some(1), Work::Sends(DeviceId(3), 1, times))?.1;
+    let transcript = sent.ok_or(NotTimed::Failed)?;
     let text = text(rt.alloc(), &transcript, 0)?;
     let (values, bytes) = first_values(rt.alloc(), text.as_slice())?;
+    if transcript.entries().len() != entries as usize || values.len() != LINES {
+        return Err(NotTimed::Failed);
+    }
     Ok(Sample {
         entries,
         transcript,
@@ -153,25 +139,20 @@ fn write_values(alloc: Global, values: &[Value]) -> Result<u64, AllocError> {
     Ok(bytes)
 }
 
-/// Reads the value of each line, drops it, and counts the lines.
+/// Reads the value of each line, drops it, and counts the lines' bytes. That a line isn't read is for want of memory.
 fn read_values(alloc: Global, text: &[u8]) -> Timed<u64> {
-    let mut lines: u64 = 0;
+    let mut bytes: u64 = 0;
     for line in text.split_inclusive(|&byte| byte == b'\n') {
-        if Value::from_slice(alloc, line).is_err() {
-            return Err(NotTimed::Memory);
-        }
-        lines = lines.saturating_add(1);
+        drop(Value::from_slice(alloc, line).map_err(|_| NotTimed::Memory)?);
+        bytes = bytes.saturating_add(line.len() as u64);
     }
-    Ok(lines)
+    Ok(bytes)
 }
 
 /// Reads the lines that end in a block, and has the judge judge their entries.
 fn judge_block(alloc: Global, reader: &mut Reader, judge: &mut Judge, block: &[u8]) -> Timed<()> {
     let mut rest = block;
-    while !rest.is_empty() {
-        let Some((line, count)) = reader.next(alloc, rest)? else {
-            return Ok(());
-        };
+    while let Some((line, count)) = reader.next(alloc, rest)? {
         if let Line::Entry(entry) = &line {
             judge.feed(entry)?;
         }
@@ -196,8 +177,7 @@ fn work(alloc: Global, task: Task, sample: &Sample) -> Timed<Made>
             let Some(header) = transcript.header() else {
                 return Err(NotTimed::Failed);
             };
-            let mut reader = Reader::new(alloc);
-            let mut judge = Judge::new(alloc, header);
+            let (mut reader, mut judge) = (Reader::new(alloc), Judge::new(alloc, header));
             for block in given.chunks(BLOCK) {
                 judge_block(alloc, &mut reader, &mut judge, block)?;
             }
@@ -207,8 +187,8 @@ fn work(alloc: Global, task: Task, sample: &Sample) -> Timed<Made>
     })
 }
 
-/// Times a task. To look at what came of it, and to drop that, is not in the time. It has to be all of the entries,
-/// lines or bytes, and each legal.
+/// Times a task. To look at what came of it, and to drop that, is not in the time. It has to be all of the entries
+/// or bytes, and each legal.
 pub fn perform<R: Clock + AllocGlobal>(rt: &R, task: Task, sample: &Sample) -> Timed<Done>
     ensures { IfOk result (λ _. HasCome task sample.now) }
 {
@@ -217,15 +197,15 @@ pub fn perform<R: Clock + AllocGlobal>(rt: &R, task: Task, sample: &Sample) -> T
     let made = work(alloc, task, sample)?;
     let taken = start.elapsed(rt);
     let entries = u64::from(sample.entries);
-    let (count, bytes, most) = match task {
-        Task::WriteValues => (LINES as u32, sample.bytes, sample.bytes),
-        _ => (sample.entries, sample.text.len() as u64, entries + 1),
+    let (count, bytes) = match task {
+        Task::WriteValues => (LINES as u32, sample.bytes),
+        _ => (sample.entries, sample.text.len() as u64),
     };
     let is_expected = match &made {
         Made::Text(text) => text.len() == sample.text.len(),
         Made::Transcript(made) => made.entries().len() == sample.entries as usize,
         Made::Verdict(verdict) => *verdict == (Verdict::Legal { entries }),
-        Made::Count(made) => *made == most,
+        Made::Count(made) => *made == bytes,
     };
     let is_verdict = matches!(made, Made::Verdict(_));
     drop(made);

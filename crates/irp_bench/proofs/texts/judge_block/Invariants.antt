@@ -2,5 +2,5 @@
 use Rattle.std.proofs.Common.{length}
 use Rattle.irp_bench.proofs.texts.judge_block.Given as goal
 
-abbrev pub decreases-loop-rest : goal.decreases-loop-rest
-decreases-loop-rest l = length l.rest
+abbrev pub decreases-loop-line : goal.decreases-loop-line
+decreases-loop-line l = length l.rest
