@@ -1,47 +1,44 @@
 //! Loads of calls: works by the manager alone, and in sessions, where each call is recorded.
 
-ghost use Rattle.std.specs.Prelude.{◌≡◌, true, IfOk};
+ghost use Rattle.std.{specs.Prelude.{◌≡◌, Bool, List, true, IfOk}, proofs.Props.{props}};
+ghost use Rattle.irp_types.specs.declared.{asked.Asked.{Asked}, reply.Reply.{Reply}};
 ghost use Rattle.irp_types.specs.declared.limit.Limit.TheVariants.{ThirtyTwo};
-ghost use Rattle.irp_types.specs.Rules.{is_allowed, is_plan_allowed};
-ghost use Rattle.irp_types.specs.State.{no_routines};
 ghost use Rattle.irp_types.specs.declared.routine.Rule.TheVariants.{Watch};
+ghost use Rattle.irp_types.specs.{Calls.{Call}, Rules.{is_allowed, is_plan_allowed}};
+ghost use Rattle.irp_types.specs.{Standing.{StandingFacts}, State.{no_routines}};
+ghost use Rattle.irp_manager.specs.{Keeps.{slabbed}, ManagerStates.{state_of, Stepped}};
 ghost use Rattle.irp_shared.specs.Answered.{AnswersSo};
-ghost use Rattle.irp_bench.specs.Bench.{MakesOne, Repeats};
+ghost use Rattle.irp_bench.specs.Bench.{Keeps, MakesOne, Repeats};
 
-use crate::caller::{Alone, Caller, Recorder};
 use crate::timed::{Done, Host, NotTimed, Timed};
-use irp_manager::Manager;
+use irp_manager::{Manager, NotRecorded};
 use irp_routines::{Ask, Dispatch, Routine, Store};
-use irp_shared::{Seat, Session, Transcript, open};
+use irp_shared::{Seat, Session, Shared, Transcript, needs_token, open};
 use irp_types::{
-    Answer, Call, DeviceId, DispatchId, DriverId, IrpRef, Known, LockNo, Party, Plan, Reply,
-    RoutineId, Rule, Setting, Shown, Status,
+    Answer, Call, DeviceId, DispatchId, DriverId, IrpRef, Known, KnowsNothing, LockNo, Party, Plan,
+    Reply, RoutineId, Rule, Setting, Shown, Status,
 };
 use std::alloc::Global;
 use std::marker::Brand;
 use std::rt::Clock;
+use std::sync::Wait;
 use std::sync::ledger::Blank;
 use std::thread;
 use std::time::{Duration, Instant};
 
 /// The major function code of a read, IRP_MJ_READ (WDK: "IRP_MJ_READ").
 const READ: u8 = 0x03;
-
 /// How many calls are made in rounds, by all callers together. Their entries fill a history.
 const CALLS: u32 = 1_000_000;
-
 /// How often each packet is sent.
 const SENDS: u32 = 40;
-
 /// The routines that the dispatch may name: one of rule Watch.
 const KNOWN: Known = Known {
     watch: 1,
     ..Known::NONE
 };
-
 /// How many packets are allocated and given back.
 const UNUSED: u32 = 20_000;
-
 /// The routine of rule Watch, on success, on error and on cancel.
 const WATCH: Setting = Setting {
     routine: RoutineId {
@@ -53,6 +50,64 @@ const WATCH: Setting = Setting {
     on_error: true,
     on_cancel: true,
 };
+
+/// Who makes calls of a manager, one after another.
+pub trait Caller {
+    /// What a call with its reply makes of the caller.
+    ghost makes: { Self → Call → Reply → Self → Type 0 };
+
+    /// Makes a call. Answers the reply, and how many questions were asked in it: of dispatches, and of completion and
+    /// cancel routines.
+    fn make(&mut self, call: Call) -> Timed<(Reply, usize)>
+        ensures { IfOk result (λ answered. makes self.old call answered.0 self.new) };
+}
+
+/// The manager alone: each call is one of its steps.
+#[derive(Drop)]
+struct Alone {
+    manager: Manager<Store>,
+    ghost stands: { StandingFacts manager.ask.tables.counts
+        (state_of slabbed manager.state) } by { Prim.hlevel props },
+}
+
+impl Caller for Alone {
+    ghost makes = { λ old call reply new. (drained : Bool) × (asked : List Asked)
+        × Stepped slabbed old.manager.ask.tables drained old.manager.state call asked reply
+        new.manager.state };
+
+    fn make(&mut self, call: Call) -> Timed<(Reply, usize)> {
+        let applied = self.manager.apply(call, &KnowsNothing)?;
+        Ok((applied.reply, applied.asked.len()))
+    }
+}
+
+/// A seat, whose calls of a shared book are recorded.
+#[derive(Drop)]
+struct Recorder<'a, R, A: Ask, L: Session> {
+    rt: &'a R,
+    shared: &'a Shared<A, L>,
+    seat: Seat<L>,
+}
+
+/// Each call is recorded, and the seat keeps its entry.
+impl<R: Wait, A: Ask, L: Session> Caller for Recorder<'_, R, A, L> {
+    ghost makes = { λ old call reply new. Keeps old.seat call reply new.seat };
+
+    fn make(&mut self, call: Call) -> Timed<(Reply, usize)> {
+        if needs_token(call) {
+            return Err(NotTimed::Failed);
+        }
+        let (rt, seat) = (self.rt, &mut self.seat);
+        let receipt = match self.shared.call(rt, seat, call, &KnowsNothing) {
+            Ok(receipt) => receipt,
+            Err(NotRecorded::Memory) => return Err(NotTimed::Memory),
+            Err(_) => return Err(NotTimed::Failed),
+        };
+        let entry = self.seat.entries().last();
+        let questions = entry.map_or(0, |entry| entry.asked.as_slice().len());
+        Ok((receipt.reply(), questions))
+    }
+}
 
 /// What is timed, on what is there before. `MakesOne` lists the calls.
 #[derive(Clone, Copy)]

@@ -2,7 +2,6 @@
 //! transcripts, and their judging.
 #![tactic(auto)]
 
-mod caller;
 mod calls;
 mod pairs;
 mod texts;
