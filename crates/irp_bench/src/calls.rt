@@ -32,11 +32,6 @@ const READ: u8 = 0x03;
 const CALLS: u32 = 1_000_000;
 /// How often each packet is sent.
 const SENDS: u32 = 40;
-/// The routines that the dispatch may name: one of rule Watch.
-const KNOWN: Known = Known {
-    watch: 1,
-    ..Known::NONE
-};
 /// How many packets are allocated and given back.
 const UNUSED: u32 = 20_000;
 /// The routine of rule Watch, on success, on error and on cancel.
@@ -193,19 +188,15 @@ fn set_up<C: Caller>(caller: &mut C, alloc: Global, devices: u32, more: u32) -> 
     let (driver, lock) = (DriverId(0), LockNo(0));
     let most = u8::try_from(devices).unwrap_or(u8::MAX);
     let size = if devices == 0 { 16 } else { most };
-    let mut allocated = Vec::new(alloc);
-    for number in 0..devices.saturating_add(more) {
-        if number >= devices {
-            allocated.push(answered!(caller, Call::Allocate { size }, Reply::Irp(irp) => irp))?;
-            continue;
-        }
+    for number in 0..devices {
         caller.make(Call::CreateDevice { driver, lock })?;
         if number > 0 {
             let (device, to) = (DeviceId(number), DeviceId(number - 1));
             caller.make(Call::Attach { device, to })?;
         }
     }
-    Ok(allocated)
+    let allocate = |_| answered!(caller, Call::Allocate { size }, Reply::Irp(irp) => Ok(irp));
+    (0..more).map(allocate).try_collect(alloc)
 }
 
 /// Does a work with this caller. Answers how long the timed calls took, without what came before: the devices and the
@@ -251,9 +242,8 @@ fn watches(shown: Shown) -> Answer
     ensures { is_allowed Watch shown result ≡ true }
 {
     Answer {
-        keep: false,
         mark: Rule::right_mark(shown, false),
-        replacement: None,
+        ..Answer::CONTINUES
     }
 }
 
@@ -274,9 +264,8 @@ fn recorded<A: Ask + Send + Drop, L: Session + Send + Sync, R: Host>(
     requires fixed { L.fixed ≡ record { locks = 1; tables = A.tables ask; limit = ThirtyTwo } }
     requires may { AnswersSo (A.may_plan ask) (A.may_answer ask) (A.may_cancel ask) L.may }
 {
-    let Ok((shared, places)) = open::<A, L>(rt.alloc(), blank, ask, 1, seats) else {
-        return Err(NotTimed::Memory);
-    };
+    let opened = open::<A, L>(rt.alloc(), blank, ask, 1, seats);
+    let (shared, places) = opened.map_err(|_| NotTimed::Memory)?;
     let each = &|seat: Seat<L>| -> Timed<(Seat<L>, Duration)> {
         let shared = &shared;
         let mut caller = Recorder { rt, shared, seat };
@@ -292,10 +281,8 @@ fn recorded<A: Ask + Send + Drop, L: Session + Send + Sync, R: Host>(
         taken = if seats == 1 { own } else { taken };
         places.push(seat)?;
     }
-    match shared.close(places) {
-        Ok(transcript) => Ok((taken, Some(transcript))),
-        Err(_) => Err(NotTimed::Failed),
-    }
+    let transcript = shared.close(places).map_err(|_| NotTimed::Failed)?;
+    Ok((taken, Some(transcript)))
 }
 
 /// Does the work with this store in a session of so many seats; where there are none, by the manager alone.
@@ -314,15 +301,16 @@ pub fn do_work<R: Host>(rt: &R, seats: Option<u32>, work: Work) -> Timed<Outcome
     let alloc = rt.alloc();
     let reads = [(READ, DispatchId(0))].to_vec(alloc)?;
     let watch = Routine::new(Rule::Watch, Box::new(alloc, watches)?);
-    let forward = Dispatch::new(KNOWN, Box::new(alloc, forwards)?);
+    let known = Known {
+        watch: 1,
+        ..Known::NONE
+    };
+    let forward = Dispatch::new(known, Box::new(alloc, forwards)?);
     let mut store = Store::new(alloc);
-    let has_watch = store.add(watch).is_ok();
-    let has_forward = store.add_dispatch(forward).is_ok();
-    let has_driver = store.add_driver(reads).is_ok();
-    if has_watch && has_forward && has_driver {
-        return with_store(rt, store, seats, work);
-    }
-    Err(NotTimed::Memory)
+    store.add(watch).map_err(|_| NotTimed::Memory)?;
+    store.add_dispatch(forward).map_err(|_| NotTimed::Memory)?;
+    store.add_driver(reads).map_err(|_| NotTimed::Memory)?;
+    with_store(rt, store, seats, work)
 }
 
 /// What is done in calls, for a number.
@@ -353,8 +341,8 @@ pub fn time_calls<R: Host>(rt: &R, calls: Calls, number: u32, is_recorded: bool)
         Calls::Sends => (Work::Sends(top, packets, SENDS), 1, 1, packets * SENDS),
     };
     let mut taken = Duration::ZERO;
+    let seats = is_recorded.then_some(seats);
     for _ in 0..sessions {
-        let seats = if is_recorded { Some(seats) } else { None };
         taken = taken.saturating_add(do_work(rt, seats, work)?.0);
     }
     Ok(Done::of(count, 0, taken))
