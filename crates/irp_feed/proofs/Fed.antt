@@ -21,12 +21,6 @@ use Rattle.irp_feed.specs.declared.unfed.RefusedLine.{RefusedLine}
 use Rattle.irp_feed.specs.declared.unfed.RefusedLine.TheVariants.{NoNewline}
 use Rattle.irp_feed.proofs.Pieces.{reads_on}
 
--- the first line is a header
-pub first_header : (line : Line) → IsInPlace no_lines line → (header : Header) × (line ≡ HeaderLine header)
-first_header (HeaderLine header) place = (header, refl)
-first_header (EntryLine entry) place = absurd (cc (place.0))
-first_header (WordLine word) place = absurd (cc (place))
-
 -- a line behind the header leaves the header
 pub header_stays : (before : TranscriptValue) (line : Line) (header : Header) → IsInPlace before line → before.header ≡ Some header → (with_line before line).header ≡ Some header
 header_stays before (HeaderLine other) header place is = absurd (none-some header (sym (ap (λ (it : TranscriptValue). it.header) place) ∙ is))

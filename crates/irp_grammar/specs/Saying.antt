@@ -1,5 +1,5 @@
 -- The script that lines say, and what is told of it.
-use Rattle.std.specs.Prelude.{◌≡◌, ◌==◌, ℕ, Bool, true, false, List, [], ◌∷◌, ◌++◌, map, take, Option, Some, None, is_some, Ok}
+use Rattle.std.specs.Prelude.{◌≡◌, ◌==◌, ℕ, Bool, true, false, List, [], ◌∷◌, ◌++◌, map, take, Option, Some, None, is_some, Ok, Err}
 use Rattle.std.specs.Prelude.{if◌then◌else◌, string_bytes}
 use Rattle.std.specs.List.{list_any}
 use Rattle.std.specs.Option.{unwrap_or}
@@ -17,6 +17,8 @@ use Rattle.irp_script_reader.specs.Scripts.{ReadsScript}
 use Rattle.irp_script_reader.specs.declared.{act.Named.Named, act.Step.Step, act.StepAct.StepAct}
 use Rattle.irp_script_reader.specs.declared.act.Named.TheVariants as named
 use Rattle.irp_script_reader.specs.declared.act.StepAct.TheVariants as does
+use Rattle.irp_script_reader.specs.declared.refusal.ScriptFault.{ScriptFault}
+use Rattle.irp_script_reader.specs.declared.refusal.ScriptFault.TheVariants as script_fault
 use Rattle.irp_script_reader.specs.declared.script.{ScriptForm.ScriptForm, ScriptParts.ScriptParts}
 use Rattle.irp_script_reader.specs.declared.script.ScriptForm.TheVariants as forms
 use Rattle.irp_names.specs.declared.plan_kinds.PlanKind.TheVariants as kind
@@ -156,3 +158,8 @@ abbrev pub GivesFaults : List WordsFault → Untold → Type 0
 GivesFaults faults (untold.Faults given) = given.items ≡ faults
 GivesFaults faults untold.NoMemory = Unit {0}
 GivesFaults faults untold.Differs = ⊥
+
+-- the script of this text is refused so; or memory runs out, in reading it or in writing its words
+abbrev pub IsUnread : ScriptFault → List ℕ → Type 0
+IsUnread (script_fault.Refused refusal) text = ReadsScript (Err (script_fault.Refused refusal)) text
+IsUnread script_fault.NoMemory text = Unit {0}

@@ -5,6 +5,7 @@ ghost use Rattle.irp_script_reader.specs.Scripts.{ReadsScript};
 ghost use Rattle.irp_grammar.specs.Saying.{GivesFaults, Says, TellsScript};
 
 use crate::cursor::WordsFault;
+use crate::read::read_lines;
 use crate::said::Said;
 use crate::same::says;
 use crate::to_json::json_text;
@@ -88,4 +89,16 @@ pub fn json<'a>(alloc: Global, said: &Said<'a>) -> Result<Told, Untold<'a>>
     } else {
         Err(faulty(alloc, said.faults.as_slice()))
     }
+}
+
+/// The JSON of a text in words, and the script that `read_script` reads from it.
+///
+/// # Errors
+///
+/// As `read_lines` and `json` have them.
+pub fn json_of<'a>(alloc: Global, text: &'a [u8]) -> Result<Told, Untold<'a>>
+    ensures { IfOk result (λ told. ReadsScript (Ok told.script) (string_bytes told.text)) }
+{
+    let said = read_lines(alloc, text)?;
+    json(alloc, &said)
 }

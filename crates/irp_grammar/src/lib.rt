@@ -19,7 +19,7 @@ mod values;
 mod wanted;
 
 pub use cursor::{WordsFault, fault_lines};
-pub use law::{Told, Untold, json};
+pub use law::{Told, Untold, json, json_of};
 pub use read::read_lines;
 pub use said::Said;
 pub use to_words::words;

@@ -1,5 +1,10 @@
 //! A script of JSON, written in words. What writes a word writes a blank before it.
 
+ghost use Rattle.std.specs.Prelude.{IfErr, IfOk, Ok};
+ghost use Rattle.irp_script_reader.specs.Scripts.{ReadsScript};
+ghost use Rattle.irp_script_reader.specs.declared.script.Script.{Script};
+ghost use Rattle.irp_grammar.specs.Saying.{IsUnread};
+
 use crate::condition::answer_word;
 use crate::members::{count_of, with_one};
 use crate::names::named_as;
@@ -370,8 +375,11 @@ fn put_script(text: &mut Sink, parts: &ScriptParts) {
 ///
 /// # Errors
 ///
-/// As `read_script` has them.
-pub fn words(alloc: Global, bytes: &[u8]) -> Result<String, ScriptFault> {
+/// `Refused` exactly where `read_script` refuses the script, with its refusal; `NoMemory` where memory runs out.
+pub fn words(alloc: Global, bytes: &[u8]) -> Result<String, ScriptFault>
+    ensures ok { IfOk result (λ _. (script : Script) × ReadsScript (Ok script) bytes.now) }
+    ensures err { IfErr result (λ fault. IsUnread fault bytes.now) }
+{
     let script = read_script(alloc, bytes)?;
     let mut text = Sink::new(alloc);
     put_script(&mut text, script.parts());

@@ -1,5 +1,5 @@
 -- What ends with a newline.
-use Rattle.std.proofs.Common.{◌≡◌, ◌≢◌, ℕ, List, [], ◌∷◌, ◌++◌, refl, sym, ap, ◌∙◌, arith}
+use Rattle.std.proofs.Common.{◌≡◌, ◌≢◌, ℕ, List, [], ◌∷◌, ◌++◌, refl, sym, ap, ◌∙◌}
 use Rattle.irp_live.specs.Streams.{IsEndless}
 
 abbrev last_of : ℕ → List ℕ → ℕ
@@ -10,11 +10,7 @@ last_is : (given : ℕ) (others : List ℕ) (last : ℕ) → last_of given (othe
 last_is given [] last = refl
 last_is given (one ∷ others) last = last_is one others last
 
--- nothing ends with no newline
-pub nothing_ends : IsEndless []
-nothing_ends front is = absurd (omega (arith, ap (last_of 0) is ∙ last_is 0 front 10))
-
--- nor does what ends with another byte
+-- what ends with another byte ends with no newline
 pub other_ends : (text others : List ℕ) (last : ℕ) → text ≡ others ++ last ∷ [] → last ≢ 10 → IsEndless text
 other_ends text others last is other front same =
     other (sym (last_is 0 others last) ∙ ap (last_of 0) (sym is ∙ same) ∙ last_is 0 front 10)

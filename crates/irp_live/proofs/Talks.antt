@@ -1,6 +1,6 @@
 -- More exchanges behind some.
-use Rattle.std.proofs.Common.{ℕ, ◌+◌, List, [], ◌∷◌, ◌++◌, length, refl, sym, subst, ◌∙◌, arith, length-append}
-use Rattle.std.proofs.KnownBytes.{Appends-trans, Consumes-trans, Appends-nil, Consumes-nil}
+use Rattle.std.proofs.Common.{ℕ, ◌+◌, List, [], ◌∷◌, ◌++◌, length, sym, subst, ◌∙◌, arith, length-append}
+use Rattle.std.proofs.KnownBytes.{Appends-trans, Consumes-trans}
 use Rattle.std.proofs.lemmas.Grind.{flat_map-append}
 use Rattle.std.specs.Io.KnownBytes.{Appends, Consumes}
 use Rattle.irp_live.specs.Sessions.{SessionValue}
@@ -16,16 +16,6 @@ talks_both first a b c [] others same talks =
 talks_both first a b c (one ∷ some) others before talks =
     let later : Talks (first + 1 + length some) b others c = subst (λ number. Talks number b others c) (omega arith) talks in
     (before.0, before.1, talks_both (first + 1) before.0 b c some others before.2 later)
-
--- nothing was read yet
-pub talked_none : (first : ℕ) (session : SessionValue) (streams : Streams) → Talked first session streams first session streams
-talked_none first session streams = record {
-  exchanges = [];
-  counted = omega arith;
-  talks = refl;
-  heard = Consumes-nil streams.left;
-  said = (Appends-nil streams.output.gone, refl);
-}
 
 -- some were read and answered, and then others
 pub talked_both : (first next last : ℕ) (a b c : SessionValue) (old mid new : Streams)

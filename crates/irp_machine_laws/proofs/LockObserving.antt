@@ -50,12 +50,6 @@ or_false : (b : Bool) → (b || false) ≡ b
 or_false true = refl
 or_false false = refl
 
-true_or : (a b s : Bool) → (a ≡ (b || s)) → (a || true) ≡ (true || s)
-true_or a b s e = or_true a
-
-or_set : (a b s : Bool) → (a ≡ (b || s)) → (a || true) ≡ (b || true)
-or_set a b s e = or_true a ∙ sym (or_true b)
-
 -- one more thing learned
 learned_more : (test : Learned → Bool) (learned : List Learned) (one : Learned) → list_any test (learned ++ one ∷ []) ≡ (list_any test learned || test one)
 learned_more test learned one = list_any-append test learned (one ∷ []) ∙ ap (λ (b : Bool). list_any test learned || b) (or_false (test one))

@@ -1,3 +1,4 @@
 mod CallNames
 mod PlansApart
+pub mod Saying
 mod ToldApart

@@ -1,30 +1,16 @@
 //! Telling what is asked of the orders of a script in words.
 
-ghost use Rattle.std.specs.Prelude.{◌⊎◌, IfOk, Ok, string_bytes};
-ghost use Rattle.irp_script_reader.specs.Scripts.{ReadsScript};
+ghost use Rattle.std.specs.Prelude.{◌⊎◌};
 ghost use Rattle.irp_orders.specs.Program.{ExploresWords, IsFaulty, IsToldOfJson};
 
 use crate::answering::answer;
 use crate::asked::Order;
 use crate::ending::Ending;
-use irp_grammar::{Told, Untold, fault_lines, json, read_lines};
+use irp_grammar::{Untold, fault_lines, json_of};
 use irp_program::TOO_MANY_BYTES;
 use irp_streams::{Out, read_up_to};
 use std::alloc::Global;
 use std::io::Read;
-
-/// The JSON that `irp_words json` prints of a text in words, with its script.
-///
-/// # Errors
-///
-/// The faults that the words have; that memory ran out. `Differs` is a fault of this program, which no text is known to
-/// bring about.
-fn told_of<'a>(alloc: Global, text: &'a [u8]) -> Result<Told, Untold<'a>>
-    ensures { IfOk result (λ told. ReadsScript (Ok told.script) (string_bytes told.text)) }
-{
-    let said = read_lines(alloc, text)?;
-    json(alloc, &said)
-}
 
 /// How the program ends where there is no JSON of a text in words: with a line for each fault, as `irp_words` tells it.
 fn ending_of(alloc: Global, untold: Untold<'_>) -> Ending
@@ -45,7 +31,7 @@ fn answer_words<O: Out>(alloc: Global, output: &mut O, order: &Order<'_>, text: 
     ensures { IsFaulty result
         ⊎ IsToldOfJson order.now (O.gone output.old) (O.gone output.new) result }
 {
-    match told_of(alloc, text) {
+    match json_of(alloc, text) {
         Ok(told) => answer(alloc, output, &told.script, order),
         Err(untold) => ending_of(alloc, untold),
     }

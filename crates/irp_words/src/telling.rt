@@ -1,11 +1,9 @@
 //! What is told of a text.
 
-ghost use Rattle.std.specs.Prelude.{IfOk, Ok, string_bytes};
-ghost use Rattle.irp_script_reader.specs.Scripts.{ReadsScript};
 ghost use Rattle.irp_words.specs.Telling.{Fails, IsSent, Prints};
 
 use crate::ending::Ending;
-use irp_grammar::{Said, Told, Untold, fault_lines, json, read_lines, words};
+use irp_grammar::{Said, Untold, fault_lines, json, json_of, read_lines, words};
 use irp_names::Sink;
 use irp_script_reader::{Script, ScriptFault, read_script};
 use irp_streams::{Out, put_all};
@@ -21,14 +19,6 @@ pub fn send_text<O: Out>(output: &mut O, text: &[u8], ending: Ending) -> Ending
         Ok(()) => ending,
         Err(_) => Ending::Failed,
     }
-}
-
-/// The JSON of a text in words, and the script that `read_script` reads from it.
-fn told_of<'a>(alloc: Global, text: &'a [u8]) -> Result<Told, Untold<'a>>
-    ensures { IfOk result (λ told. ReadsScript (Ok told.script) (string_bytes told.text)) }
-{
-    let said = read_lines(alloc, text)?;
-    json(alloc, &said)
 }
 
 /// Tells why there is no JSON of a text.
@@ -67,7 +57,7 @@ pub fn tell_json<O: Out, E: Out>(
 ) -> Ending
     ensures { Prints result (O.gone output.old) (O.gone output.new) }
 {
-    match told_of(alloc, text) {
+    match json_of(alloc, text) {
         Ok(told) => match put_all(output, told.text.as_bytes()) {
             Ok(()) => Ending::Done,
             Err(_) => Ending::Failed,

@@ -1,5 +1,5 @@
 -- What the tables of a store are, once some of a script's routines, dispatches and drivers are added.
-use Rattle.std.proofs.Common.{◌≡◌, ℕ, ◌+◌, ◌<◌, ◌≤◌, List, [], ◌∷◌, ◌++◌, length, get_or, take, map, All, refl, sym, ap, ap₂, subst, ◌∙◌, arith, append_assoc, append-nil, length-append, zero-add}
+use Rattle.std.proofs.Common.{◌≡◌, ℕ, ◌+◌, ◌<◌, ◌≤◌, List, [], ◌∷◌, ◌++◌, length, get_or, take, map, All, refl, sym, ap, ap₂, subst, ◌∙◌, arith, append_assoc, length-append, zero-add}
 use Rattle.std.proofs.lemmas.List.{map-append, take_all, take_more}
 use Rattle.irp_types.specs.State.{Tables, Entrance, no_routines}
 use Rattle.irp_types.specs.declared.answer.CancelAnswer.{CancelAnswer}
@@ -65,11 +65,6 @@ cancels_grow tables answers answer =
     ap₂ (λ (cancel : ℕ) (rules : List CancelRule). record tables { counts = record tables.counts { cancel = cancel }; cancel_rules = rules })
     (one_longer tables.counts.cancel answers answer) (rules_longer tables.cancel_rules answers answer)
 
-pub cancels_none : (tables : Tables) → tables ≡ and_cancels [] tables
-cancels_none tables =
-    ap₂ (λ (cancel : ℕ) (rules : List CancelRule). record tables { counts = record tables.counts { cancel = cancel }; cancel_rules = rules })
-    (omega arith) (sym (append-nil tables.cancel_rules))
-
 -- ---- dispatches
 
 pub dispatches_grow : (tables : Tables) (plans : List Plan) (plan : Plan) → and_dispatches (plans ++ plan ∷ []) tables ≡ with_dispatch (and_dispatches plans tables) tables.counts
@@ -78,9 +73,6 @@ dispatches_grow tables plans plan =
     (ap (λ (more : List Known). tables.dispatches ++ more) (map-append (λ (each : Plan). tables.counts) plans (plan ∷ []))
     ∙ sym (append_assoc tables.dispatches (map (λ (each : Plan). tables.counts) plans) (tables.counts ∷ [])))
 
-pub dispatches_none : (tables : Tables) → tables ≡ and_dispatches [] tables
-dispatches_none tables = ap (λ (all : List Known). record tables { dispatches = all }) (sym (append-nil tables.dispatches))
-
 -- ---- drivers
 
 pub drivers_grow : (tables : Tables) (drivers : List (List Entrance)) (driver : List Entrance) → and_drivers (drivers ++ driver ∷ []) tables ≡ with_driver (and_drivers drivers tables) (by_major driver)
@@ -88,9 +80,6 @@ drivers_grow tables drivers driver =
     ap (λ (all : List (List Entrance)). record tables { drivers = all })
     (ap (λ (more : List (List Entrance)). tables.drivers ++ more) (map-append by_major drivers (driver ∷ []))
     ∙ sym (append_assoc tables.drivers (map by_major drivers) (by_major driver ∷ [])))
-
-pub drivers_none : (tables : Tables) → tables ≡ and_drivers [] tables
-drivers_none tables = ap (λ (all : List (List Entrance)). record tables { drivers = all }) (sym (append-nil tables.drivers))
 
 -- ---- what holds of a script's closures
 
