@@ -37,39 +37,23 @@ call_back (call.Look irp) own drained h told = rw (told.0, told.1, irp_back irp 
 
 pub call_stands : (levels : ℕ) (made : Call) (lock : Option LockNo) (drained : Bool) → CallFits made → TellsLock made lock drained
     → Stands (call_json made lock drained) (suc (suc levels))
-call_stands levels (call.CreateDevice driver lock) own drained h told =
-    (refl, refl, refl, (wide driver.0 h.0, refl, refl, (wide lock.0 h.1, refl, refl, tt)))
-call_stands levels (call.Attach device to) own drained h told =
-    (wide device.0 h.0, refl, refl, (refl, refl, refl, (wide to.0 h.1, refl, refl, tt)))
-call_stands levels (call.Detach lower) own drained h told =
-    (refl, refl, refl, (wide lower.0 h, refl, refl, tt))
-call_stands levels (call.Delete device) own drained h told =
-    (wide device.0 h, refl, refl, (refl, refl, refl, (tt, refl, refl, (or_null_stands lock_json LockFits (suc levels) (λ given k. wide given.0 k) own told, refl, refl, tt))))
-call_stands levels (call.Allocate size) own drained h told =
-    (refl, refl, refl, (byte_wide size h, refl, refl, tt))
-call_stands levels (call.Free irp) own drained h told =
-    (refl, refl, refl, (irp_stands levels irp h, refl, refl, tt))
-call_stands levels (call.Reuse irp status) own drained h told =
-    (refl, refl, refl, (irp_stands levels irp h.0, refl, refl, (wide status.0 h.1, refl, refl, tt)))
-call_stands levels (call.SetNext party irp major word) own drained h told =
-    (party_stands (suc levels) party h.0, refl, refl, (refl, refl, refl, (irp_stands levels irp h.1, refl, refl, (byte_wide major h.2, refl, refl, (h.3, refl, refl, tt)))))
-call_stands levels (call.CopyToNext party irp) own drained h told =
-    (party_stands (suc levels) party h.0, refl, refl, (refl, refl, refl, (irp_stands levels irp h.1, refl, refl, tt)))
-call_stands levels (call.Skip party irp) own drained h told =
-    (party_stands (suc levels) party h.0, refl, refl, (refl, refl, refl, (irp_stands levels irp h.1, refl, refl, tt)))
+call_stands levels (call.CreateDevice driver lock) own drained h told = (refl, refl, (refl, (wide driver.0 h.0, (wide lock.0 h.1, tt))))
+call_stands levels (call.Attach device to) own drained h told = (refl, refl, (wide device.0 h.0, (refl, (wide to.0 h.1, tt))))
+call_stands levels (call.Detach lower) own drained h told = (refl, refl, (refl, (wide lower.0 h, tt)))
+call_stands levels (call.Delete device) own drained h told = (refl, refl, (wide device.0 h, (refl, (tt, (or_null_stands lock_json LockFits (suc levels) (λ given k. wide given.0 k) own told, tt)))))
+call_stands levels (call.Allocate size) own drained h told = (refl, refl, (refl, (byte_wide size h, tt)))
+call_stands levels (call.Free irp) own drained h told = (refl, refl, (refl, (irp_stands levels irp h, tt)))
+call_stands levels (call.Reuse irp status) own drained h told = (refl, refl, (refl, (irp_stands levels irp h.0, (wide status.0 h.1, tt))))
+call_stands levels (call.SetNext party irp major word) own drained h told = (refl, refl, (party_stands (suc levels) party h.0, (refl, (irp_stands levels irp h.1, (byte_wide major h.2, (h.3, tt))))))
+call_stands levels (call.CopyToNext party irp) own drained h told = (refl, refl, (party_stands (suc levels) party h.0, (refl, (irp_stands levels irp h.1, tt))))
+call_stands levels (call.Skip party irp) own drained h told = (refl, refl, (party_stands (suc levels) party h.0, (refl, (irp_stands levels irp h.1, tt))))
 call_stands levels (call.SetRoutine party irp setting) own drained h told =
-    (party_stands (suc levels) party h.0, refl, refl, (refl, refl, refl, (irp_stands levels irp h.1, refl, refl, (setting_stands levels setting h.2, refl, refl, tt))))
-call_stands levels (call.MarkPending party irp) own drained h told =
-    (party_stands (suc levels) party h.0, refl, refl, (refl, refl, refl, (irp_stands levels irp h.1, refl, refl, tt)))
-call_stands levels (call.CallDriver party irp target) own drained h told =
-    (party_stands (suc levels) party h.0, refl, refl, (refl, refl, refl, (irp_stands levels irp h.1, refl, refl, (wide target.0 h.2, refl, refl, tt))))
-call_stands levels (call.Complete party irp status information) own drained h told =
-    (party_stands (suc levels) party h.0, refl, refl, (refl, refl, refl, (h.3, refl, refl, (irp_stands levels irp h.1, refl, refl, (wide status.0 h.2, refl, refl, tt)))))
-call_stands levels (call.FinishTaken irp token status information) own drained h told =
-    (refl, refl, refl, (h.3, refl, refl, (irp_stands levels irp h.0, refl, refl, (wide status.0 h.2, refl, refl, (h.1, refl, refl, tt)))))
+    (refl, refl, (party_stands (suc levels) party h.0, (refl, (irp_stands levels irp h.1, (setting_stands levels setting h.2, tt)))))
+call_stands levels (call.MarkPending party irp) own drained h told = (refl, refl, (party_stands (suc levels) party h.0, (refl, (irp_stands levels irp h.1, tt))))
+call_stands levels (call.CallDriver party irp target) own drained h told = (refl, refl, (party_stands (suc levels) party h.0, (refl, (irp_stands levels irp h.1, (wide target.0 h.2, tt)))))
+call_stands levels (call.Complete party irp status information) own drained h told = (refl, refl, (party_stands (suc levels) party h.0, (refl, (h.3, (irp_stands levels irp h.1, (wide status.0 h.2, tt))))))
+call_stands levels (call.FinishTaken irp token status information) own drained h told = (refl, refl, (refl, (h.3, (irp_stands levels irp h.0, (wide status.0 h.2, (h.1, tt))))))
 call_stands levels (call.SetCancelRoutine party irp cancel) own drained h told =
-    (party_stands (suc levels) party h.0, refl, refl, (cancel_or_null_stands (suc levels) cancel h.2, refl, refl, (refl, refl, refl, (irp_stands levels irp h.1, refl, refl, tt))))
-call_stands levels (call.Cancel irp) own drained h told =
-    (refl, refl, refl, (irp_stands levels irp h, refl, refl, tt))
-call_stands levels (call.Look irp) own drained h told =
-    (refl, refl, refl, (irp_stands levels irp h, refl, refl, tt))
+    (refl, refl, (party_stands (suc levels) party h.0, (cancel_or_null_stands (suc levels) cancel h.2, (refl, (irp_stands levels irp h.1, tt)))))
+call_stands levels (call.Cancel irp) own drained h told = (refl, refl, (refl, (irp_stands levels irp h, tt)))
+call_stands levels (call.Look irp) own drained h told = (refl, refl, (refl, (irp_stands levels irp h, tt)))

@@ -29,4 +29,4 @@ entry_stands levels entry h =
     let questions = items_stand asked_json AskedFits (suc (suc (suc levels))) (asked_stands levels) entry.asked h.asked in
     let made = call_stands (suc (suc levels)) entry.call entry.lock entry.drained h.call h.lock in
     let given = reply_stands (suc (suc levels)) entry.reply h.reply in
-    (questions, refl, refl, (made, refl, refl, (h.number, refl, refl, (given, refl, refl, (wide entry.seat h.seat, refl, refl, tt)))))
+    (refl, refl, (questions, (made, (h.number, (given, (wide entry.seat h.seat, tt))))))

@@ -226,59 +226,9 @@ parts_stand levels header is =
 form_stands : (levels : ℕ) (kind : Form) (header : Header) → slots_of kind < 2 ^ 32 → IsHeader header
     → Stands (line_of_form kind header) (suc (suc (suc (suc levels))))
 form_stands levels form.One header slots_small is =
-    let parts = parts_stand levels header is in (
-      parts.cancels,
-      refl,
-      refl,
-      (
-        parts.completions,
-        refl,
-        refl,
-        (
-          parts.dispatches,
-          refl,
-          refl,
-          (
-            parts.drivers,
-            refl,
-            refl,
-            (
-              omega arith,
-              refl,
-              refl,
-              (parts.locks, refl, refl, (parts.seats, refl, refl, tt)),
-            ),
-          ),
-        ),
-      ),
-    )
+    let parts = parts_stand levels header is in (refl, refl, (parts.cancels, (parts.completions, (parts.dispatches, (parts.drivers, (omega arith, (parts.locks, (parts.seats, tt))))))))
 form_stands levels (form.Two slots) header slots_small is =
-    let parts = parts_stand levels header is in (
-      parts.cancels,
-      refl,
-      refl,
-      (
-        parts.completions,
-        refl,
-        refl,
-        (
-          parts.dispatches,
-          refl,
-          refl,
-          (
-            parts.drivers,
-            refl,
-            refl,
-            (
-              omega arith,
-              refl,
-              refl,
-              (parts.locks, refl, refl, (parts.seats, refl, refl, (wide slots slots_small, refl, refl, tt))),
-            ),
-          ),
-        ),
-      ),
-    )
+    let parts = parts_stand levels header is in (refl, refl, (parts.cancels, (parts.completions, (parts.dispatches, (parts.drivers, (omega arith, (parts.locks, (parts.seats, (wide slots slots_small, tt)))))))))
 
 pub header_stands : (levels : ℕ) (header : Header) → IsHeader header → Stands (header_json header) (suc (suc (suc (suc levels))))
 header_stands levels header is = form_stands levels header.form header (omega (arith, is.few_slots)) is

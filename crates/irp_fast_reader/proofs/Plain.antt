@@ -10,7 +10,7 @@ use Rattle.std.proofs.lemmas.Str.Parse.{digit_from_value}
 use Rattle.json.specs.Print.{escape_byte, escape, quoted}
 use Rattle.serde_json.specs.Data.{unsigned, negative, float, Data, null, boolean, number, string, array, object, Items, no_items, item, Members, no_members, member}
 use Rattle.serde_json.specs.Written.{compact_text, items_text, members_text, comma_if}
-use Rattle.irp_fast_reader.proofs.Stands.{are_plain, with_last, Stands, ItemsStand, MembersStand}
+use Rattle.irp_fast_reader.proofs.Stands.{are_plain, keys_plain, Stands, ItemsStand, MembersStand}
 
 -- printable ASCII
 abbrev pub IsPlain : List ℕ → Type 0
@@ -79,20 +79,21 @@ mutual
   text_plain (array ds) zero h = absurd h
   text_plain (array ds) (suc levels) h = plain_byte 91 _ (omega arith) (omega arith) (items_plain false ds levels h)
   text_plain (object ms) zero h = absurd h
-  text_plain (object ms) (suc levels) h = plain_byte 123 _ (omega arith) (omega arith) (members_plain false no_members ms levels h)
+  text_plain (object ms) (suc levels) h = plain_byte 123 _ (omega arith) (omega arith) (members_plain false ms levels h.1 h.2)
 
   items_plain : (later : Bool) (ds : Items) (levels : ℕ) → ItemsStand ds levels → IsPlain (items_text later ds)
   items_plain later no_items levels h = plain_test (items_text later no_items) refl
   items_plain later (item d ds) levels h =
       comma_plain later _ (plain_append (compact_text d) (items_text true ds) (text_plain d levels h.0) (items_plain true ds levels h.1))
 
-  members_plain : (later : Bool) (before ms : Members) (levels : ℕ) → MembersStand before ms levels → IsPlain (members_text later ms)
-  members_plain later before no_members levels h = plain_test (members_text later no_members) refl
-  members_plain later before (member k d ms) levels h =
+  members_plain : (later : Bool) (ms : Members) (levels : ℕ) → keys_plain ms ≡ true → MembersStand ms levels → IsPlain (members_text later ms)
+  members_plain later no_members levels keys h = plain_test (members_text later no_members) refl
+  members_plain later (member k d ms) levels keys h =
+      let both = and_parts _ _ keys in
       comma_plain later _
-      (plain_append (quoted k) _ (quoted_plain k h.1)
+      (plain_append (quoted k) _ (quoted_plain k both.0)
       (plain_byte 58 _ (omega arith) (omega arith)
-      (plain_append (compact_text d) (members_text true ms) (text_plain d levels h.0) (members_plain true (with_last before k d) ms levels h.3))))
+      (plain_append (compact_text d) (members_text true ms) (text_plain d levels h.0) (members_plain true ms levels both.1 h.1))))
 
 ascii : (bytes : List ℕ) → IsPlain bytes → IsAscii bytes
 ascii [] h = IsAscii-nil

@@ -52,9 +52,6 @@ asked_back (asked.Completion id shown answer) h = rw (routine_back id h.0, shown
 asked_back (asked.Cancel id shown answer) h = rw (cancel_back id h.0, shown_back shown h.1, cancel_answer_back answer h.2)
 
 pub asked_stands : (levels : ℕ) (question : Asked) → AskedFits question → Stands (asked_json question) (suc (suc (suc levels)))
-asked_stands levels (asked.Dispatch id shown plan) h =
-    (wide id.0 h.0, refl, refl, (plan_stands levels plan h.2, refl, refl, (shown_stands (suc levels) shown h.1, refl, refl, tt)))
-asked_stands levels (asked.Completion id shown answer) h =
-    (answer_stands levels answer h.2, refl, refl, (routine_stands (suc levels) id h.0, refl, refl, (shown_stands (suc levels) shown h.1, refl, refl, tt)))
-asked_stands levels (asked.Cancel id shown answer) h =
-    (cancel_answer_stands (suc levels) answer h.2, refl, refl, (wide id.0 h.0, refl, refl, (shown_stands (suc levels) shown h.1, refl, refl, tt)))
+asked_stands levels (asked.Dispatch id shown plan) h = (refl, refl, (wide id.0 h.0, (plan_stands levels plan h.2, (shown_stands (suc levels) shown h.1, tt))))
+asked_stands levels (asked.Completion id shown answer) h = (refl, refl, (answer_stands levels answer h.2, (routine_stands (suc levels) id h.0, (shown_stands (suc levels) shown h.1, tt))))
+asked_stands levels (asked.Cancel id shown answer) h = (refl, refl, (cancel_answer_stands (suc levels) answer h.2, (wide id.0 h.0, (shown_stands (suc levels) shown h.1, tt))))

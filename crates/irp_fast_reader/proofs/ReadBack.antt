@@ -1,5 +1,5 @@
 -- The compact text of a value that stands is read back as the value.
-use Rattle.std.proofs.Common.{◌≡◌, ℕ, zero, suc, ◌≤◌, List, [], Some, option_map, option_and_then, refl, sym, ap, ◌∙◌, arith, append-nil}
+use Rattle.std.proofs.Common.{◌≡◌, ℕ, zero, suc, ◌≤◌, [], Some, option_map, option_and_then, refl, sym, ap, ◌∙◌, arith, append-nil}
 use Rattle.json.specs.Lex.{tokens}
 use Rattle.json.specs.Json as json
 use Rattle.json.specs.Tree as tree
@@ -12,15 +12,7 @@ use Rattle.serde_json.specs.Read.{number_of, of_json, of_items, of_members, max_
 use Rattle.serde_json.specs.Written.{number_text, outline, items_outline, members_outline, compact_text}
 use Rattle.serde_json.proofs.Numbers.{number_of-decimal}
 use Rattle.serde_json.proofs.Texts.{print-outline}
-use Rattle.irp_fast_reader.proofs.Stands.{joined, with_last, NumberStands, Stands, ItemsStand, MembersStand}
-
-joined_none : (ms : Members) → joined ms no_members ≡ ms
-joined_none no_members = refl
-joined_none (member k d ms) = ap (member k d) (joined_none ms)
-
-joined_last : (before : Members) (k : List ℕ) (d : Data) (more : Members) → joined (with_last before k d) more ≡ joined before (member k d more)
-joined_last no_members k d more = refl
-joined_last (member l e before) k d more = ap (member l e) (joined_last before k d more)
+use Rattle.irp_fast_reader.proofs.Stands.{put_all, NumberStands, Stands, ItemsStand, MembersStand}
 
 number_back : (n : Num) → NumberStands n → number_of (number_text n) ≡ Some n
 number_back (unsigned n) h = number_of-decimal n h
@@ -38,15 +30,15 @@ mutual
   numbers (array ds) zero h = absurd h
   numbers (array ds) (suc levels) h = items_numbers ds levels h
   numbers (object ms) zero h = absurd h
-  numbers (object ms) (suc levels) h = members_numbers no_members ms levels h
+  numbers (object ms) (suc levels) h = members_numbers ms levels h.2
 
   items_numbers : (ds : Items) (levels : ℕ) → ItemsStand ds levels → ItemsHaveNumbers (items_outline ds)
   items_numbers no_items levels h = tt
   items_numbers (item d ds) levels h = (numbers d levels h.0, items_numbers ds levels h.1)
 
-  members_numbers : (before ms : Members) (levels : ℕ) → MembersStand before ms levels → MembersHaveNumbers (members_outline ms)
-  members_numbers before no_members levels h = tt
-  members_numbers before (member k d ms) levels h = (numbers d levels h.0, members_numbers (with_last before k d) ms levels h.3)
+  members_numbers : (ms : Members) (levels : ℕ) → MembersStand ms levels → MembersHaveNumbers (members_outline ms)
+  members_numbers no_members levels h = tt
+  members_numbers (member k d ms) levels h = (numbers d levels h.0, members_numbers ms levels h.1)
 
 mutual
   back : (d : Data) (levels : ℕ) → Stands d levels → of_json (outline d) ≡ Some d
@@ -57,19 +49,17 @@ mutual
   back (array ds) zero h = absurd h
   back (array ds) (suc levels) h = ap (option_map array) (items_back ds levels h)
   back (object ms) zero h = absurd h
-  back (object ms) (suc levels) h = ap (option_map object) (members_back no_members ms levels h)
+  back (object ms) (suc levels) h = ap (option_map object) (members_back no_members ms levels h.2 ∙ ap Some h.0)
 
   items_back : (ds : Items) (levels : ℕ) → ItemsStand ds levels → of_items (items_outline ds) ≡ Some ds
   items_back no_items levels h = refl
   items_back (item d ds) levels h = rw (back d levels h.0) (ap (option_map (item d)) (items_back ds levels h.1))
 
-  members_back : (before ms : Members) (levels : ℕ) → MembersStand before ms levels → of_members (members_outline ms) before ≡ Some (joined before ms)
-  members_back before no_members levels h = ap Some (sym (joined_none before))
+  members_back : (before ms : Members) (levels : ℕ) → MembersStand ms levels → of_members (members_outline ms) before ≡ Some (put_all ms before)
+  members_back before no_members levels h = refl
   members_back before (member k d ms) levels h =
       ap (option_and_then (λ e. of_members (members_outline ms) (put k e before))) (back d levels h.0)
-      ∙ ap (of_members (members_outline ms)) h.2
-      ∙ members_back (with_last before k d) ms levels h.3
-      ∙ ap Some (joined_last before k d ms)
+      ∙ members_back (put k d before) ms levels h.1
 
 mutual
   shallow : (d : Data) (levels : ℕ) → Stands d levels → tree.depth (outline d) ≤ levels
@@ -80,16 +70,15 @@ mutual
   shallow (array ds) zero h = absurd h
   shallow (array ds) (suc levels) h = omega (arith, items_shallow ds levels h)
   shallow (object ms) zero h = absurd h
-  shallow (object ms) (suc levels) h = omega (arith, members_shallow no_members ms levels h)
+  shallow (object ms) (suc levels) h = omega (arith, members_shallow ms levels h.2)
 
   items_shallow : (ds : Items) (levels : ℕ) → ItemsStand ds levels → tree.items_depth (items_outline ds) ≤ levels
   items_shallow no_items levels h = omega arith
   items_shallow (item d ds) levels h = omega (arith, shallow d levels h.0, items_shallow ds levels h.1)
 
-  members_shallow : (before ms : Members) (levels : ℕ) → MembersStand before ms levels → tree.members_depth (members_outline ms) ≤ levels
-  members_shallow before no_members levels h = omega arith
-  members_shallow before (member k d ms) levels h =
-      omega (arith, shallow d levels h.0, members_shallow (with_last before k d) ms levels h.3)
+  members_shallow : (ms : Members) (levels : ℕ) → MembersStand ms levels → tree.members_depth (members_outline ms) ≤ levels
+  members_shallow no_members levels h = omega arith
+  members_shallow (member k d ms) levels h = omega (arith, shallow d levels h.0, members_shallow ms levels h.1)
 
 -- the text of a value that stands is read back
 pub read_back : (d : Data) → Stands d max_depth → read (compact_text d) ≡ Some d

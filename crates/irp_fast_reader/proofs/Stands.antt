@@ -8,14 +8,14 @@ abbrev pub are_plain : List ℕ → Bool
 are_plain [] = true
 are_plain (byte ∷ bytes) = (nat_lt 31 byte && nat_lt byte 128) && are_plain bytes
 
--- the one members and then the others
-abbrev pub joined : Members → Members → Members
-joined no_members others = others
-joined (member key value more) others = member key value (joined more others)
+-- the members, put one after another among those before them
+abbrev pub put_all : Members → Members → Members
+put_all no_members before = before
+put_all (member key value more) before = put_all more (put key value before)
 
--- the members and one more at their end
-abbrev pub with_last : Members → List ℕ → Data → Members
-with_last before key value = joined before (member key value no_members)
+abbrev pub keys_plain : Members → Bool
+keys_plain no_members = true
+keys_plain (member key value more) = are_plain key && keys_plain more
 
 abbrev pub NumberStands : Num → Type 0
 NumberStands (unsigned count) = count < 2 ^ 64
@@ -31,15 +31,13 @@ abbrev mutual
   Stands (array given) zero = ⊥
   Stands (array given) (suc levels) = ItemsStand given levels
   Stands (object given) zero = ⊥
-  Stands (object given) (suc levels) = MembersStand no_members given levels
+  -- each member goes last among those before it, and so all give the members again
+  Stands (object given) (suc levels) = (put_all given no_members ≡ given) × (keys_plain given ≡ true) × MembersStand given levels
 
   pub ItemsStand : Items → ℕ → Type 0
   ItemsStand no_items levels = ⊤
   ItemsStand (item first others) levels = Stands first levels × ItemsStand others levels
 
-  -- each member goes last among those before it
-  pub MembersStand : Members → Members → ℕ → Type 0
-  MembersStand before no_members levels = ⊤
-  MembersStand before (member key value more) levels =
-      Stands value levels × (are_plain key ≡ true) × (put key value before ≡ with_last before key value)
-      × MembersStand (with_last before key value) more levels
+  pub MembersStand : Members → ℕ → Type 0
+  MembersStand no_members levels = ⊤
+  MembersStand (member key value more) levels = Stands value levels × MembersStand more levels

@@ -3,7 +3,7 @@ use Rattle.std.proofs.Common.{◌≡◌, ℕ, suc, ◌^◌, ◌<◌, Bool, true,
 use Rattle.std.specs.Prelude.{IfSome}
 use Rattle.serde_json.specs.Data.{string}
 use Rattle.irp_forms.specs.Found.{rule_found}
-use Rattle.irp_forms.specs.Names.{every_flags, flags_at, rule_at, rule_name, rules}
+use Rattle.irp_forms.specs.Names.{every_flags, first_named, flagged, flags_at, flags_name, rule_at, rule_name, rules}
 use Rattle.irp_forms.specs.Parts.{or_null_at}
 use Rattle.irp_forms.specs.Questions.{answer_at, keep_named}
 use Rattle.irp_forms.specs.Values.{cancel_answer_at, cancel_at, device_at, irp_at, lock_at, party_at, plan_at, replacement_at, routine_at, setting_at, status_at}
@@ -64,25 +64,26 @@ pub routine_back : (routine : RoutineId) → routine.no < 2 ^ 32 → routine_at 
 unfolding routine_at
 routine_back routine h = rw (rule_back routine.rule, u32_back routine.no h)
 
-abbrev setting_of : Rule → ℕ → ℕ → Bool → Bool → Bool → Setting
-setting_of kind place context on_success on_error on_cancel =
-    record { routine = record { rule = kind; no = place }; context = context; on_success = on_success; on_error = on_error; on_cancel = on_cancel }
-
-flags_back : (kind : Rule) (place context : ℕ) (s e c : Bool) → place < 2 ^ 32 → context < 2 ^ 64
-    → setting_at (setting_json (setting_of kind place context s e c)) ≡ Some (setting_of kind place context s e c)
-unfolding setting_at flags_at every_flags
-flags_back kind place context true true true h k = rw (rule_back kind, u32_back place h, u64_back context k)
-flags_back kind place context true true false h k = rw (rule_back kind, u32_back place h, u64_back context k)
-flags_back kind place context true false true h k = rw (rule_back kind, u32_back place h, u64_back context k)
-flags_back kind place context true false false h k = rw (rule_back kind, u32_back place h, u64_back context k)
-flags_back kind place context false true true h k = rw (rule_back kind, u32_back place h, u64_back context k)
-flags_back kind place context false true false h k = rw (rule_back kind, u32_back place h, u64_back context k)
-flags_back kind place context false false true h k = rw (rule_back kind, u32_back place h, u64_back context k)
-flags_back kind place context false false false h k = rw (rule_back kind, u32_back place h, u64_back context k)
+flags_found : (s e c : Bool) → first_named flags_name every_flags (flags_name (flagged s e c)) ≡ Some (flagged s e c)
+unfolding every_flags
+flags_found true true true = refl
+flags_found true true false = refl
+flags_found true false true = refl
+flags_found true false false = refl
+flags_found false true true = refl
+flags_found false true false = refl
+flags_found false false true = refl
+flags_found false false false = refl
 
 pub setting_back : (setting : Setting) → SettingFits setting → setting_at (setting_json setting) ≡ Some setting
+unfolding setting_at flags_at
 setting_back setting h =
-    flags_back setting.routine.rule setting.routine.no setting.context setting.on_success setting.on_error setting.on_cancel h.0 h.1
+    rw (
+      rule_back setting.routine.rule,
+      u32_back setting.routine.no h.0,
+      u64_back setting.context h.1,
+      flags_found setting.on_success setting.on_error setting.on_cancel,
+    )
 
 setting_or_null_back : (option : Option Setting) → IfSome option SettingFits → or_null_at setting_at (or_null setting_json option) ≡ Some option
 setting_or_null_back None h = refl
@@ -140,20 +141,13 @@ rule_plain kind = found_plain rule_name rules kind refl (rule_found kind)
 pub routine_stands : (levels : ℕ) (routine : RoutineId) → routine.no < 2 ^ 32 → Stands (routine_json routine) (suc levels)
 routine_stands levels routine h = (rule_plain routine.rule, (wide routine.no h, tt))
 
-flags_stand : (levels : ℕ) (kind : Rule) (place context : ℕ) (s e c : Bool) → place < 2 ^ 32 → context < 2 ^ 64
-    → Stands (setting_json (setting_of kind place context s e c)) (suc levels)
-flags_stand levels kind place context true true true h k = (rule_plain kind, (wide place h, (k, (refl, tt))))
-flags_stand levels kind place context true true false h k = (rule_plain kind, (wide place h, (k, (refl, tt))))
-flags_stand levels kind place context true false true h k = (rule_plain kind, (wide place h, (k, (refl, tt))))
-flags_stand levels kind place context true false false h k = (rule_plain kind, (wide place h, (k, (refl, tt))))
-flags_stand levels kind place context false true true h k = (rule_plain kind, (wide place h, (k, (refl, tt))))
-flags_stand levels kind place context false true false h k = (rule_plain kind, (wide place h, (k, (refl, tt))))
-flags_stand levels kind place context false false true h k = (rule_plain kind, (wide place h, (k, (refl, tt))))
-flags_stand levels kind place context false false false h k = (rule_plain kind, (wide place h, (k, (refl, tt))))
+flags_plain : (s e c : Bool) → are_plain (flags_name (flagged s e c)) ≡ true
+unfolding every_flags
+flags_plain s e c = found_plain flags_name every_flags (flagged s e c) refl (flags_found s e c)
 
 pub setting_stands : (levels : ℕ) (setting : Setting) → SettingFits setting → Stands (setting_json setting) (suc levels)
 setting_stands levels setting h =
-    flags_stand levels setting.routine.rule setting.routine.no setting.context setting.on_success setting.on_error setting.on_cancel h.0 h.1
+    (rule_plain setting.routine.rule, (wide setting.routine.no h.0, (h.1, (flags_plain setting.on_success setting.on_error setting.on_cancel, tt))))
 
 pub plan_stands : (levels : ℕ) (chosen : Plan) → PlanFits chosen → Stands (plan_json chosen) (suc (suc levels))
 plan_stands levels (plan.Finish status information) h = (refl, (wide status.0 h.0, (h.1, tt)))

@@ -80,7 +80,7 @@ word_taken : (header : Header) (entries : List Entry) (before : List WordLine) (
     → IsNext (made header entries before) (word_json line) (made header entries (before ++ line ∷ []))
 word_taken header entries before line h = (
   WordLineOf line,
-  (no_entry line, word_back line h.fits, rw (lt-ltb line.seat header.seats h.seated, h.hands) h.of_form),
+  (no_entry line h.fits, word_back line h.fits, rw (lt-ltb line.seat header.seats h.seated, h.hands) h.of_form),
   refl,
 )
 

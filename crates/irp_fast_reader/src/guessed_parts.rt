@@ -2,11 +2,19 @@
 
 use crate::scan::{Guess, Scan};
 use irp_forms::{flags_named, named};
-use irp_types::{CancelId, DeviceId, IrpRef, LockNo, Owner, Party, RoutineId, Setting, Status};
+use irp_types::{
+    CancelId, DeviceId, DriverId, IrpRef, LockNo, Owner, Party, RoutineId, Setting, Status,
+};
 
 impl Guess for DeviceId {
     fn guess(scan: &mut Scan) -> Option<DeviceId> {
         Some(DeviceId(scan.after("")?))
+    }
+}
+
+impl Guess for DriverId {
+    fn guess(scan: &mut Scan) -> Option<DriverId> {
+        Some(DriverId(scan.after("")?))
     }
 }
 

@@ -49,12 +49,3 @@ pub fn put_row(out: &mut Vec<u8>, row: &[(&str, Part)]) -> Result<(), AllocError
     }
     put_text(out, "}")
 }
-
-/// Writes an object whose members are told so, each behind the text before it.
-macro_rules! row {
-    ($out:ident, $($before:literal $part:ident($value:expr)),+) => {
-        put_row($out, &[$(($before, Part::$part($value))),+])
-    };
-}
-
-pub(crate) use row;

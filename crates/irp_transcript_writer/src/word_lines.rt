@@ -4,9 +4,11 @@
 ghost use Rattle.irp_transcript_writer.specs.Lines.{word_json, word_reply_json};
 
 use crate::form::{Written, put_one, put_text};
-use crate::rows::{Part, put_row, row};
+use crate::rows::{Part, put_row};
 use irp_transcript::{Act, WordLine, WordReply};
-use irp_types::{Hand, LockAct, SlotAct, Status};
+use irp_types::LockAct::{Acquire, BeginRemove, Drained, Release};
+use irp_types::SlotAct::{Publish, Request, Withdraw};
+use irp_types::Status;
 use std::alloc::AllocError;
 
 impl Written for WordReply {
@@ -35,21 +37,29 @@ impl Written for WordReply {
     }
 }
 
-/// Writes the line of a step on a remove lock: its name and the lock, behind a text, what it was answered, its seat,
-/// its place and these numbers.
+/// Writes the line of a step on a remove lock: its name and the lock, what it was answered, its seat, its place and
+/// these numbers.
 macro_rules! on_lock {
-    ($out:ident, $line:ident, $before:literal, $lock:expr $(, $key:literal $number:expr)*) => {
-        row!($out, $before Lock(Some($lock)), ",\"reply\":" Reply($line.reply),
-            ",\"seat\":" Number($line.seat as u64), ",\"step\":" Number($line.step as u64)
-            $(, $key Number($number as u64))*)
+    ($out:ident $line:ident $name:literal $lock:expr $(, $key:literal $number:expr)*) => {
+        put_row($out, &[
+            (concat!("{\"do\":\"", $name, "\",\"lock\":"), Part::Lock(Some($lock))),
+            (",\"reply\":", Part::Reply($line.reply)),
+            (",\"seat\":", Part::Number($line.seat as u64)),
+            (",\"step\":", Part::Number($line.step as u64))
+            $(, (concat!(",\"", $key, "\":"), Part::Number($number as u64)))*
+        ])
     };
 }
 
-/// Writes the line of a step on a cancel slot, whose name stands in the text before.
+/// Writes the line of a step on a cancel slot, by its name.
 macro_rules! on_slot {
-    ($out:ident, $line:ident, $before:literal, $slot:expr) => {
-        row!($out, $before Reply($line.reply), ",\"seat\":" Number($line.seat as u64),
-            ",\"slot\":" Number($slot as u64), ",\"step\":" Number($line.step as u64))
+    ($out:ident $line:ident $name:literal $slot:expr) => {
+        put_row($out, &[
+            (concat!("{\"do\":\"", $name, "\",\"reply\":"), Part::Reply($line.reply)),
+            (",\"seat\":", Part::Number($line.seat as u64)),
+            (",\"slot\":", Part::Number($slot as u64)),
+            (",\"step\":", Part::Number($line.step as u64)),
+        ])
     };
 }
 
@@ -59,33 +69,16 @@ impl Written for WordLine {
     fn write(&self, out: &mut Vec<u8>) -> Result<(), AllocError> {
         let line = *self;
         match line.act {
-            Act::OnLock(LockAct::Acquire { lock, tag }) => {
-                on_lock!(out, line, "{\"do\":\"acquire\",\"lock\":", lock, ",\"tag\":" tag)
-            }
-            Act::OnLock(LockAct::Release { lock, tag }) => {
-                on_lock!(out, line, "{\"do\":\"release\",\"lock\":", lock, ",\"tag\":" tag)
-            }
-            Act::OnLock(LockAct::BeginRemove { lock, tag }) => {
-                on_lock!(out, line, "{\"do\":\"begin_remove\",\"lock\":", lock, ",\"tag\":" tag)
-            }
-            Act::OnLock(LockAct::Drained { lock }) => {
-                on_lock!(out, line, "{\"do\":\"drained\",\"lock\":", lock)
-            }
-            Act::Hand(Hand { lock, tag, to }) => {
-                on_lock!(out, line, "{\"do\":\"hand\",\"lock\":", lock, ",\"tag\":" tag, ",\"to\":" to)
-            }
-            Act::OnSlot(SlotAct::Publish { slot }) => {
-                on_slot!(out, line, "{\"do\":\"publish\",\"reply\":", slot)
-            }
-            Act::OnSlot(SlotAct::Withdraw { slot }) => {
-                on_slot!(out, line, "{\"do\":\"withdraw\",\"reply\":", slot)
-            }
-            Act::OnSlot(SlotAct::Request { slot }) => {
-                on_slot!(out, line, "{\"do\":\"request\",\"reply\":", slot)
-            }
-            Act::FinishTaken { slot } => {
-                on_slot!(out, line, "{\"do\":\"finish_taken\",\"reply\":", slot)
-            }
+            Act::OnLock(Acquire { lock, tag }) => on_lock!(out line "acquire" lock, "tag" tag),
+            Act::OnLock(Release { lock, tag }) => on_lock!(out line "release" lock, "tag" tag),
+            Act::OnLock(BeginRemove { lock, tag }) =>
+                on_lock!(out line "begin_remove" lock, "tag" tag),
+            Act::OnLock(Drained { lock }) => on_lock!(out line "drained" lock),
+            Act::Hand(on) => on_lock!(out line "hand" on.lock, "tag" on.tag, "to" on.to),
+            Act::OnSlot(Publish { slot }) => on_slot!(out line "publish" slot),
+            Act::OnSlot(Withdraw { slot }) => on_slot!(out line "withdraw" slot),
+            Act::OnSlot(Request { slot }) => on_slot!(out line "request" slot),
+            Act::FinishTaken { slot } => on_slot!(out line "finish_taken" slot),
         }
     }
 }
