@@ -1,1 +1,3 @@
 pub mod Advice
+pub mod Places
+pub mod Told

@@ -1,7 +1,9 @@
 //! The faults of a script, each with its place. Source: this project's own rule.
 
 ghost use Rattle.std.specs.Prelude.{◌≡◌, ◌∷◌, IfOk};
+ghost use Rattle.irp_names.specs.Sinks.{Says};
 ghost use Rattle.irp_text_faults.specs.Advice.{BeginsWith, IsAdviceOn};
+ghost use Rattle.irp_text_faults.specs.Told.{member_text, message_text, named_text, part_text, place_text, section_text};
 
 use crate::around::Around;
 use crate::lists::{check_completion, check_driver, check_plan};
@@ -37,31 +39,60 @@ pub struct FaultMessage {
 impl FaultMessage {
     /// Puts the message, in one line without a newline: the section and the member, line and column, what is wrong, what
     /// it may be, and a remedy where there is one.
-    pub fn write(&self, out: &mut Sink) {
-        if let ScriptRefusal::At { section, index, .. } = self.refusal {
-            put_section(out, section, index);
-        }
+    #[tactic(auto, using(irp_names::proofs::Saying::says_both))]
+    pub fn write(&self, out: &mut Sink)
+        ensures { Says (message_text self.now) out.old out.new }
+    {
+        put_part(out, self.refusal);
         put_place(out, self.place);
         out.put(self.words.as_str());
     }
 }
 
-/// Puts a section, and which of its members is meant; nothing of the top.
-pub fn put_section(out: &mut Sink, section: Section, index: usize) {
-    if section == Section::Top {
+/// Puts the part that a refusal names.
+fn put_part(out: &mut Sink, refusal: ScriptRefusal)
+    ensures { Says (part_text refusal) out.old out.new }
+{
+    if let ScriptRefusal::At { section, index, .. } = refusal {
+        put_section(out, section, index);
+    }
+}
+
+/// Puts which member of a section is meant; nothing of a number.
+fn put_member(out: &mut Sink, section: Section, index: usize)
+    ensures { Says (member_text section index) out.old out.new }
+{
+    if matches!(section, Section::Seats | Section::Locks | Section::Slots) {
         return;
     }
+    out.put("[");
+    out.number(index as u64);
+    out.put("]");
+}
+
+/// Puts a section that has a key, and which of its members is meant.
+fn put_named(out: &mut Sink, section: Section, index: usize)
+    ensures { Says (named_text section index) out.old out.new }
+{
     out.put(key_of(section));
-    if !matches!(section, Section::Seats | Section::Locks | Section::Slots) {
-        out.put("[");
-        out.number(index as u64);
-        out.put("]");
-    }
+    put_member(out, section, index);
     out.put(", ");
 }
 
+/// Puts a section, and which of its members is meant; nothing of the top.
+pub fn put_section(out: &mut Sink, section: Section, index: usize)
+    ensures { Says (section_text section index) out.old out.new }
+{
+    match section {
+        Section::Top => {}
+        other => put_named(out, other, index),
+    }
+}
+
 /// Puts a place.
-pub fn put_place(out: &mut Sink, place: Place) {
+pub fn put_place(out: &mut Sink, place: Place)
+    ensures { Says (place_text place) out.old out.new }
+{
     out.put("line ");
     out.number(place.line as u64);
     out.put(", column ");

@@ -1,5 +1,8 @@
 //! The tokens of a JSON text, each with its place.
 
+ghost use Rattle.std.specs.Prelude.{◌≡◌};
+ghost use Rattle.irp_text_faults.specs.Places.{cut};
+
 use std::alloc::{AllocError, Global};
 
 /// What a token is.
@@ -36,7 +39,9 @@ pub struct Token {
 }
 
 /// The bytes of a text from one place up to another. None where there are no such.
-pub fn cut(text: &[u8], start: usize, end: usize) -> &[u8] {
+pub fn cut(text: &[u8], start: usize, end: usize) -> &[u8]
+    ensures { result.now ≡ cut text.now start end }
+{
     if start <= end && end <= text.len() {
         &text[start..end]
     } else {

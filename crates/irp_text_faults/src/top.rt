@@ -1,5 +1,8 @@
 //! What is wrong with the keys of a script and with its numbers. Source: this project's own format (docs/FORMATS.md).
 
+ghost use Rattle.std.specs.Prelude.{◌≡◌};
+ghost use Rattle.irp_text_faults.specs.Told.{key_of};
+
 use crate::around::Around;
 use crate::nodes::{Node, number_of};
 use crate::part::Part;
@@ -56,7 +59,9 @@ pub fn check_top(found: &mut Finding, around: Around) -> bool {
 }
 
 /// The key of a section, which has a number or a list.
-pub fn key_of(section: Section) -> &'static str {
+pub fn key_of(section: Section) -> &'static str
+    ensures { result.now ≡ key_of section }
+{
     match section {
         Section::Top => "",
         Section::Seats => "seats",

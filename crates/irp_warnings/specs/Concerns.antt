@@ -34,7 +34,7 @@ use Rattle.irp_machine.specs.Runs.{RunValue}
 use Rattle.irp_machine.specs.Standings.{StandingValue}
 use Rattle.irp_warnings.specs.Answers.{may_be_answered}
 use Rattle.irp_warnings.specs.declared.warning.Concern.{Concern}
-use Rattle.irp_warnings.specs.declared.warning.Concern.TheVariants.{Unbound, NoRoutine, TooShort, NoLower, Attached, NotHeld, NeverAnswered}
+use Rattle.irp_warnings.specs.declared.warning.Concern.TheVariants.{Unbound, NoCompletionRoutine, NoCancelRoutine, TooShort, NoLower, Attached, NotHeld, NeverAnswered}
 
 -- what isn't meant in a step, by its list and its place there
 pub record Hint : Type 0 where
@@ -58,11 +58,11 @@ never_answered script (Some condition) =
 abbrev pub no_routine : Known → Setting → Option Concern
 no_routine known setting =
     then_some (nat_le (count_of_rule known setting.routine.rule) setting.routine.no)
-    (NoRoutine (Some setting.routine.rule) setting.routine.no (count_of_rule known setting.routine.rule))
+    (NoCompletionRoutine setting.routine.rule setting.routine.no (count_of_rule known setting.routine.rule))
 
 -- a cancel routine isn't there
 abbrev pub no_cancel : Known → CancelId → Option Concern
-no_cancel known cancel = then_some (nat_le known.cancel cancel.0) (NoRoutine None cancel.0 known.cancel)
+no_cancel known cancel = then_some (nat_le known.cancel cancel.0) (NoCancelRoutine cancel.0 known.cancel)
 
 -- ---- labels
 

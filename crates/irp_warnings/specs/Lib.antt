@@ -1,3 +1,4 @@
 pub mod Answers
 pub mod Concerns
+pub mod Told
 pub mod Warned

@@ -211,8 +211,8 @@ fn no_routine(known: Known, setting: Setting) -> Option<Concern>
 {
     let (rule, number) = (setting.routine.rule, setting.routine.no);
     let count = known.count_of(rule);
-    (number >= count).then_some(Concern::NoRoutine {
-        rule: Some(rule),
+    (number >= count).then_some(Concern::NoCompletionRoutine {
+        rule,
         number,
         count,
     })
@@ -223,11 +223,7 @@ fn no_cancel(known: Known, cancel: CancelId) -> Option<Concern>
     ensures { result ≡ spec.no_cancel known cancel }
 {
     let (number, count) = (cancel.0, known.cancel);
-    (number >= count).then_some(Concern::NoRoutine {
-        rule: None,
-        number,
-        count,
-    })
+    (number >= count).then_some(Concern::NoCancelRoutine { number, count })
 }
 
 /// A packet has fewer locations than the stack of a device has devices up to it.

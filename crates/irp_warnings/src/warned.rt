@@ -24,8 +24,8 @@ const MOST_WARNINGS: usize = 100;
 fn key_of_concern(concern: Concern) -> &'static str {
     match concern {
         Concern::Unbound { .. } => "irp",
-        Concern::NoRoutine { rule: Some(_), .. } => "set",
-        Concern::NoRoutine { rule: None, .. } => "cancel",
+        Concern::NoCompletionRoutine { .. } => "set",
+        Concern::NoCancelRoutine { .. } => "cancel",
         Concern::TooShort { .. } | Concern::NoLower { .. } => "target",
         Concern::Attached => "device",
         Concern::NotHeld { .. } => "tag",
@@ -99,12 +99,16 @@ fn tell(found: &mut Finding, node: Node, concern: Concern) -> bool {
             let words = "no allocate before this step binds the label ";
             found.wrong(node, &[Say(words), Show(node.span())])
         }
-        Concern::NoRoutine {
+        Concern::NoCompletionRoutine {
             rule,
             number,
             count,
         } => {
-            let what = rule.map_or("cancel routine", |rule| rule.name());
+            let what = rule.name();
+            there_are(found, node, what, u64::from(number), u64::from(count))
+        }
+        Concern::NoCancelRoutine { number, count } => {
+            let what = "cancel routine";
             there_are(found, node, what, u64::from(number), u64::from(count))
         }
         Concern::TooShort { size, devices } => tell_too_short(found, node, size, devices),

@@ -1,5 +1,8 @@
 //! Warnings. A file of its own, since definitions that clauses cite name these.
 
+ghost use Rattle.irp_names.specs.Sinks.{Says};
+ghost use Rattle.irp_warnings.specs.Told.{warning_text};
+
 use irp_names::Sink;
 use irp_script_reader::Section;
 use irp_text_faults::{Place, put_place, put_section};
@@ -12,9 +15,14 @@ pub enum Concern {
     Unbound {
         label: usize,
     },
-    /// A completion routine of a rule isn't there, or a cancel routine, where no rule is named.
-    NoRoutine {
-        rule: Option<Rule>,
+    /// A completion routine of a rule isn't there.
+    NoCompletionRoutine {
+        rule: Rule,
+        number: u32,
+        count: u32,
+    },
+    /// A cancel routine isn't there.
+    NoCancelRoutine {
         number: u32,
         count: u32,
     },
@@ -59,12 +67,17 @@ pub struct Warning {
 
 impl Warning {
     /// Puts the message, in one line without a newline, which begins with `warning: `.
-    pub fn write(&self, out: &mut Sink) {
+    pub fn write(&self, out: &mut Sink)
+        ensures { Says (warning_text self.now.place self.now) out.old out.new }
+    {
         self.write_at(out, self.place);
     }
 
     /// The same, with another place: that of the step in the text from which the JSON was made.
-    pub fn write_at(&self, out: &mut Sink, place: Place) {
+    #[tactic(auto, using(irp_names::proofs::Saying::says_both))]
+    pub fn write_at(&self, out: &mut Sink, place: Place)
+        ensures { Says (warning_text place self.now) out.old out.new }
+    {
         out.put("warning: ");
         put_section(out, self.section, self.index);
         put_place(out, place);
