@@ -24,6 +24,13 @@ impl<W: Write> WriterOut<W> {
             failures: 0,
         }
     }
+
+    /// The writer, as the puts left it: what went out has gone to it. The count of failures is given up.
+    pub fn into_writer(self) -> W
+        ensures gone { W.contents result ≡ ⟦<WriterOut<W> as Out>⟧.gone self }
+    {
+        self.writer
+    }
 }
 
 impl<W: Write> Out for WriterOut<W> {
