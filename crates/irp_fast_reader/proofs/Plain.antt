@@ -1,13 +1,15 @@
 -- The compact text of a value that stands is printable ASCII. So it is UTF-8, and has no newline.
 use Rattle.std.proofs.Common.{◌≡◌, ℕ, zero, suc, ◌<◌, ◌==◌, ◌||◌, nat_lt, List, [], ◌∷◌, ◌++◌, Bool, true, false, cond, decimal, refl, arith}
 use Rattle.std.specs.Prelude.{⊤, IsUtf8, IsAscii}
+use Rattle.std.specs.Str.Parse.{AllDigits}
 use Rattle.std.proofs.lemmas.Bool.{ne_eqb, and_parts, ltb-true, lt-ltb, le-ltb}
 use Rattle.std.proofs.lemmas.Fmt.{decimal_is_IsNumeral}
 use Rattle.std.proofs.lemmas.Str.{IsUtf8-from_ascii}
 use Rattle.std.proofs.lemmas.Str.Ascii.{IsAscii-nil, IsAscii-cons}
+use Rattle.std.proofs.lemmas.Str.Parse.{digit_from_value}
 use Rattle.json.specs.Print.{escape_byte, escape, quoted}
 use Rattle.serde_json.specs.Data.{unsigned, negative, float, Data, null, boolean, number, string, array, object, Items, no_items, item, Members, no_members, member}
-use Rattle.serde_json.specs.Written.{compact_text, items_text, members_text}
+use Rattle.serde_json.specs.Written.{compact_text, items_text, members_text, comma_if}
 use Rattle.irp_fast_reader.proofs.Stands.{are_plain, keys_plain, Stands, ItemsStand, MembersStand}
 
 -- printable ASCII
@@ -50,6 +52,20 @@ escape_byte_plain byte low high =
 escape_plain : (text : List ℕ) → IsPlain text → IsPlain (escape text)
 escape_plain [] h = tt
 escape_plain (byte ∷ bytes) h = plain_append (escape_byte byte) (escape bytes) (escape_byte_plain byte h.0 h.1) (escape_plain bytes h.2)
+
+quoted_plain : (text : List ℕ) → are_plain text ≡ true → IsPlain (quoted text)
+quoted_plain text h =
+    plain_byte 34 _ (omega arith) (omega arith) (plain_append (escape text) (34 ∷ []) (escape_plain text (plain_test text h)) (plain_test (34 ∷ []) refl))
+
+digits_plain : (digits : List ℕ) → AllDigits 10 digits → IsPlain digits
+digits_plain [] h = tt
+digits_plain (digit ∷ digits) h =
+    let range = digit_from_value digit h.0 in
+    (omega (arith, range), omega (arith, range), digits_plain digits h.1)
+
+comma_plain : (later : Bool) (text : List ℕ) → IsPlain text → IsPlain (comma_if later ++ text)
+comma_plain true text h = plain_byte 44 text (omega arith) (omega arith) h
+comma_plain false text h = h
 
 mutual
   text_plain : (d : Data) (levels : ℕ) → Stands d levels → IsPlain (compact_text d)
