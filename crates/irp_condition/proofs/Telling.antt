@@ -1,5 +1,6 @@
 -- What is written says the condition again.
-use Rattle.std.proofs.Common.{ℕ, zero, suc, ◌≡◌, ◌⊎◌, inl, inr, refl, sym, ◌∙◌, ap, subst, ◌+◌, ◌-◌, ◌^◌, ◌<◌, ◌==◌, ◌&&◌, nat_lt, List, [], ◌∷◌, ◌++◌, length, get_or, Bool, true, false, not, Option, Some, None, arith, bytes_eq, decimal}
+use Rattle.std.proofs.Common.{ℕ, zero, suc, ◌≡◌, ◌⊎◌, inl, inr, refl, sym, ◌∙◌, ap, subst, ◌+◌, ◌-◌, ◌^◌, ◌<◌, ◌≤◌, ◌==◌, ◌&&◌, nat_lt, List, [], ◌∷◌, ◌++◌, length, get_or, Bool, true, false, not, Option, Some, None, arith, bytes_eq, decimal, append_assoc}
+use Rattle.std.proofs.lemmas.List.{append-nil}
 use Rattle.std.proofs.Common.{String, Global}
 use Rattle.std.proofs.lemmas.List.Folds.{find_at}
 use Rattle.std.proofs.lemmas.Slice.Eq.{bytes_eq-Decides}
@@ -24,15 +25,15 @@ use Rattle.irp_condition.specs.declared.tokens.Token.{Token}
 use Rattle.irp_condition.specs.declared.value.Value.{Value}
 use Rattle.irp_condition.specs.declared.value.Value.TheVariants as of_value
 use Rattle.irp_types.specs.declared.location.Owner.TheVariants as owner
-use Rattle.irp_condition.specs.Faults.{found}
+use Rattle.irp_condition.specs.Faults.{Found, found}
 use Rattle.irp_condition.specs.Formulas.{Formula, joins, no, true_of, compares}
 use Rattle.irp_condition.specs.Grammar.{Level, single, joined, inside, Says, compared as says_compared, negated as says_negated, enclosed as says_enclosed, alone as says_alone, more as says_more, reader_of, TextSays}
 use Rattle.irp_condition.specs.Naming.{word_of, sort_of, needs_replies}
-use Rattle.irp_condition.specs.Reading.{place_of, label_at, number_below, subject_at, fact_of, name_at, fact_at, behind_noun, behind_word, behind_close, sign_at, value_at}
-use Rattle.irp_condition.specs.Tokens.{kind_of, goes_on, is_blank_kind}
-use Rattle.irp_condition.specs.Writing.{TellsBack, is_noun, Piece, bytes_of, word, sign, opening, closing, blank, name_of_fact, word_of_name, sign_of, label_text, subject_text, fact_pieces, all_of_word, is_word_text, ReadsAs, WritesValue, stands, joined_pieces, Writes, bare, enclosed, negated, alone, compared}
+use Rattle.irp_condition.specs.Reading.{place_of, label_at, number_below, device_at, subject_at, fact_of, name_at, fact_at, behind_noun, behind_word, behind_close, sign_at, is_truth, compared_at, value_at}
+use Rattle.irp_condition.specs.Tokens.{kind_of, goes_on, is_blank_kind, tokens_below}
+use Rattle.irp_condition.specs.Writing.{TellsBack, is_noun, Piece, bytes_of, word, sign, opening, closing, blank, name_of_fact, word_of_name, sign_of, label_text, subject_text, fact_pieces, all_of_word, is_word_text, ReadsAs, WritesValue, stands, joined_pieces, compared_pieces, Writes, bare, enclosed, negated, alone, compared, other_truth, other_left, other_right}
 use Rattle.irp_condition.proofs.Lexing.{IsPiece, Lexes, nothing, put, both_lex, Spells, done, passed, stood, spelled_apart, tokens_of_pieces}
-use Rattle.irp_condition.proofs.Sayable.{CanName, CanTell, CanWrite, by_word, by_noun, Fits, bare as fits_bare, deeper, negation, truth, comparison, kept, said_fits, proper_text}
+use Rattle.irp_condition.proofs.Sayable.{Proper, CanName, CanTell, CanWrite, by_word, by_noun, Fits, bare as fits_bare, deeper, negation, truth, comparison, kept, said_fits, proper_text}
 use Rattle.irp_condition.specs.Words.{◌>>=◌, below, number_in, device_named}
 use Rattle.irp_condition.proofs.Spelling.{AreDigits, Spelled, digits_are_words, spelled, decimal_read, device_read, bind_link, below_is}
 
@@ -381,6 +382,9 @@ lifted (joined And) And is says = says
 lifted (joined And) Or is says = cc
 lifted (joined Or) And is says = says_alone says
 lifted (joined Or) Or is says = says
+
+no_single_word : (column : ℕ) (text : List ℕ) (tokens : List Token) → sign_at (record { kind = of_kind.Word; text = text; column = column } ∷ tokens) ≡ None
+no_single_word column text tokens = refl
 
 word_behind : (joint : Joint) (column : ℕ) (tokens : List Token)
     → behind_word (word_of joint) (record { kind = of_kind.Word; text = word_of joint; column = column } ∷ tokens) ≡ Some tokens
