@@ -8,7 +8,8 @@ use Rattle.irp_transcript_writer.specs.Lines.{asked_json, device_json, shown_jso
 use Rattle.irp_fast_reader.proofs.Numbers.{u8_back, u32_back, u64_back, byte_wide, wide, or_null_stands}
 use Rattle.irp_fast_reader.proofs.Stands.{Stands}
 use Rattle.irp_fast_reader.proofs.Values.{answer_back, answer_stands, cancel_answer_back, cancel_answer_stands, cancel_back, device_or_null_back, plan_back, plan_stands, routine_back, routine_stands, status_back}
-use Rattle.irp_fast_reader.specs.Fits.{AskedFits, DeviceFits, ShownFits}
+use Rattle.irp_fast_reader.specs.Fits.{AskedFits, ShownFits}
+use Rattle.irp_fast_reader.specs.Parts.{DeviceFits}
 
 shown_back : (shown : Shown) → ShownFits shown → shown_at (shown_json shown) ≡ Some shown
 unfolding shown_at

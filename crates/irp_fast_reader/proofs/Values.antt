@@ -20,7 +20,8 @@ use Rattle.irp_transcript_writer.specs.Lines.{answer_json, cancel_answer_json, c
 use Rattle.irp_fast_reader.proofs.Names.{found_plain}
 use Rattle.irp_fast_reader.proofs.Numbers.{u32_back, u64_back, wide, or_null_stands}
 use Rattle.irp_fast_reader.proofs.Stands.{are_plain, Stands}
-use Rattle.irp_fast_reader.specs.Fits.{AnswerFits, CancelAnswerFits, CancelFits, DeviceFits, IrpFits, LockFits, PartyFits, PlanFits, ReplacementFits, SettingFits, StatusFits}
+use Rattle.irp_fast_reader.specs.Fits.{AnswerFits, CancelAnswerFits, PlanFits, ReplacementFits}
+use Rattle.irp_fast_reader.specs.Parts.{CancelFits, DeviceFits, IrpFits, LockFits, PartyFits, SettingFits, StatusFits}
 
 -- ---- what is read
 

@@ -1,22 +1,26 @@
 -- A word line is read as it was written, and its form stands.
-use Rattle.std.proofs.Common.{◌≡◌, ◌∙◌, ℕ, suc, ◌<◌, ◌^◌, codes, false, Option, Some, None, refl, arith}
+use Rattle.std.proofs.Common.{◌≡◌, ℕ, suc, ◌<◌, ◌^◌, ◌+◌, ◌==◌, ◌&&◌, codes, length, map, false, true, Some, None, refl, arith}
 use Rattle.serde_json.specs.Data.{Data}
 use Rattle.serde_json.specs.Find.{get, as_str}
-use Rattle.irp_forms.specs.Parts.{◌>>=◌, has_keys}
-use Rattle.irp_forms.specs.SeatActs.{hand_at, lock_act_named, slot_alone_at}
+use Rattle.irp_forms.specs.Parts.{◌>>=◌, count_members, each_key, has_keys}
+use Rattle.irp_forms.specs.Steps.{act_named, act_rows, keys_of, step_keys}
+use Rattle.irp_forms.specs.Told.{hand_of, lock_act_of, part_at, part_under, told_at}
+use Rattle.irp_forms.specs.declared.step_names.Act.{Act as Step}
+use Rattle.irp_forms.specs.declared.step_names.Act.TheVariants as word
 use Rattle.irp_types.specs.declared.seat_act.LockAct.TheVariants as on_lock
 use Rattle.irp_types.specs.declared.seat_act.SlotAct.TheVariants as on_slot
 use Rattle.irp_transcript.specs.declared.{word_line.Act.Act, word_line.WordLine.WordLine, word_line.WordReply.WordReply}
 use Rattle.irp_transcript.specs.declared.word_line.Act.TheVariants as act
 use Rattle.irp_transcript.specs.declared.word_line.WordReply.TheVariants as word_reply
 use Rattle.irp_transcript_reader.specs.Reading.{is_entry}
-use Rattle.irp_transcript_reader.specs.WordLines.{act_named, valued_reply_at, word_line_at, word_reply_at, word_reply_named}
+use Rattle.irp_transcript_reader.specs.WordLines.{act_at, act_of, beside, line_keys, valued_reply_at, word_line_at, word_reply_at, word_reply_named}
 use Rattle.irp_transcript_writer.specs.Json.{natural}
 use Rattle.irp_transcript_writer.specs.Lines.{line_of_act, word_json, word_reply_json}
 use Rattle.irp_fast_reader.proofs.Numbers.{u32_back, u64_back, wide}
 use Rattle.irp_fast_reader.proofs.Stands.{Stands}
-use Rattle.irp_fast_reader.proofs.Values.{lock_back}
+use Rattle.irp_fast_reader.proofs.Told.{parts_back, read_again}
 use Rattle.irp_fast_reader.specs.Fits.{ActFits, WordFits, WordReplyFits}
+use Rattle.irp_fast_reader.specs.Parts.{act_parts}
 
 word_reply_back : (given : WordReply) → WordReplyFits given → word_reply_at (word_reply_json given) ≡ Some given
 unfolding word_reply_at valued_reply_at word_reply_named has_keys
@@ -57,36 +61,41 @@ word_reply_stands levels word_reply.NotStanding h = refl
 word_reply_stands levels word_reply.NoSlot h = refl
 word_reply_stands levels word_reply.NoToken h = refl
 
+-- the act of a line, where its step has no other keys than these, under which stands what was written there, which makes
+-- the act
+act_back : (step : Step) (done : Act) (line : WordLine) → (get (codes "do") (line_of_act done line) >>= as_str >>= act_named) ≡ Some step
+    → ((count_members (line_of_act done line) == (length (line_keys step) + length beside)) && each_key beside (line_of_act done line)) ≡ true
+    → map (λ key. part_under key None (line_of_act done line)) (line_keys step) ≡ map read_again (act_parts done) → act_of step (act_parts done) ≡ Some done
+    → ActFits done → act_at (line_of_act done line) ≡ Some done
+unfolding act_at told_at
+act_back step done line named keyed written made h =
+    rw (named, keyed, parts_back (line_keys step) (act_parts done) None (line_of_act done line) written h, made) refl
+
 -- what the line of an act tells: no call, the act, and beside that its line's answer, seat and place
 abbrev Tells : Act → WordLine → Data → Type 0
 Tells done line form =
-    (is_entry form ≡ false) × ((get (codes "do") form >>= as_str >>= λ name. act_named name form) ≡ Some done)
+    (is_entry form ≡ false) × (act_at form ≡ Some done)
     × (get (codes "reply") form ≡ Some (word_reply_json line.reply)) × (get (codes "seat") form ≡ Some (natural line.seat))
     × (get (codes "step") form ≡ Some (natural line.step))
 
 tells : (done : Act) (line : WordLine) → ActFits done → Tells done line (line_of_act done line)
-unfolding act_named lock_act_named hand_at slot_alone_at has_keys
-tells (act.OnLock (on_lock.Acquire lock tag)) line h = (refl, rw (lock_back lock h.0, u32_back tag h.1), refl, refl, refl)
-tells (act.OnLock (on_lock.Release lock tag)) line h = (refl, rw (lock_back lock h.0, u32_back tag h.1), refl, refl, refl)
-tells (act.OnLock (on_lock.BeginRemove lock tag)) line h = (refl, rw (lock_back lock h.0, u32_back tag h.1), refl, refl, refl)
-tells (act.OnLock (on_lock.Drained lock)) line h = (refl, rw (lock_back lock h), refl, refl, refl)
-tells (act.Hand hand) line h = (refl, rw (lock_back hand.lock h.0, u32_back hand.tag h.1, u32_back hand.to h.2), refl, refl, refl)
-tells (act.OnSlot (on_slot.Publish slot)) line h = (refl, rw (u32_back slot h), refl, refl, refl)
-tells (act.OnSlot (on_slot.Withdraw slot)) line h = (refl, rw (u32_back slot h), refl, refl, refl)
-tells (act.OnSlot (on_slot.Request slot)) line h = (refl, rw (u32_back slot h), refl, refl, refl)
-tells (act.FinishTaken slot) line h = (refl, rw (u32_back slot h), refl, refl, refl)
-
-then_on : {A B C : Type 0} (first : Option A) (f : A → Option B) (g : B → Option C) → (first >>= λ one. f one >>= g) ≡ (first >>= f >>= g)
-then_on None f g = refl
-then_on (Some one) f g = refl
+unfolding act_named act_rows keys_of step_keys part_at act_of lock_act_of hand_of
+tells (act.OnLock (on_lock.Acquire lock tag)) line h = (refl, act_back word.Acquire _ line refl refl refl refl h, refl, refl, refl)
+tells (act.OnLock (on_lock.Release lock tag)) line h = (refl, act_back word.Release _ line refl refl refl refl h, refl, refl, refl)
+tells (act.OnLock (on_lock.BeginRemove lock tag)) line h = (refl, act_back word.BeginRemove _ line refl refl refl refl h, refl, refl, refl)
+tells (act.OnLock (on_lock.Drained lock)) line h = (refl, act_back word.Drained _ line refl refl refl refl h, refl, refl, refl)
+tells (act.Hand hand) line h = (refl, act_back word.Hand _ line refl refl refl refl h, refl, refl, refl)
+tells (act.OnSlot (on_slot.Publish slot)) line h = (refl, act_back word.Publish _ line refl refl refl refl h, refl, refl, refl)
+tells (act.OnSlot (on_slot.Withdraw slot)) line h = (refl, act_back word.Withdraw _ line refl refl refl refl h, refl, refl, refl)
+tells (act.OnSlot (on_slot.Request slot)) line h = (refl, act_back word.Request _ line refl refl refl refl h, refl, refl, refl)
+tells (act.FinishTaken slot) line h = (refl, act_back word.FinishTaken _ line refl refl refl refl h, refl, refl, refl)
 
 -- a word line
 pub word_back : (line : WordLine) → WordFits line → word_line_at (word_json line) ≡ Some line
 unfolding word_line_at
 word_back line h =
     let told = tells line.act line h.act in
-    then_on (get (codes "do") (word_json line) >>= as_str) (λ name. act_named name (word_json line)) _
-    ∙ rw (
+    rw (
       told.1,
       told.2,
       word_reply_back line.reply h.reply,
@@ -102,12 +111,12 @@ line_stands : (levels : ℕ) (done : Act) (line : WordLine) → ActFits done →
 line_stands levels (act.OnLock (on_lock.Acquire lock tag)) line h given seat step = (refl, refl, (refl, (wide lock.0 h.0, (given, (seat, (step, (wide tag h.1, tt)))))))
 line_stands levels (act.OnLock (on_lock.Release lock tag)) line h given seat step = (refl, refl, (refl, (wide lock.0 h.0, (given, (seat, (step, (wide tag h.1, tt)))))))
 line_stands levels (act.OnLock (on_lock.BeginRemove lock tag)) line h given seat step = (refl, refl, (refl, (wide lock.0 h.0, (given, (seat, (step, (wide tag h.1, tt)))))))
-line_stands levels (act.OnLock (on_lock.Drained lock)) line h given seat step = (refl, refl, (refl, (wide lock.0 h, (given, (seat, (step, tt))))))
+line_stands levels (act.OnLock (on_lock.Drained lock)) line h given seat step = (refl, refl, (refl, (wide lock.0 h.0, (given, (seat, (step, tt))))))
 line_stands levels (act.Hand hand) line h given seat step = (refl, refl, (refl, (wide hand.lock.0 h.0, (given, (seat, (step, (wide hand.tag h.1, (wide hand.to h.2, tt))))))))
-line_stands levels (act.OnSlot (on_slot.Publish slot)) line h given seat step = (refl, refl, (refl, (given, (seat, (wide slot h, (step, tt))))))
-line_stands levels (act.OnSlot (on_slot.Withdraw slot)) line h given seat step = (refl, refl, (refl, (given, (seat, (wide slot h, (step, tt))))))
-line_stands levels (act.OnSlot (on_slot.Request slot)) line h given seat step = (refl, refl, (refl, (given, (seat, (wide slot h, (step, tt))))))
-line_stands levels (act.FinishTaken slot) line h given seat step = (refl, refl, (refl, (given, (seat, (wide slot h, (step, tt))))))
+line_stands levels (act.OnSlot (on_slot.Publish slot)) line h given seat step = (refl, refl, (refl, (given, (seat, (wide slot h.0, (step, tt))))))
+line_stands levels (act.OnSlot (on_slot.Withdraw slot)) line h given seat step = (refl, refl, (refl, (given, (seat, (wide slot h.0, (step, tt))))))
+line_stands levels (act.OnSlot (on_slot.Request slot)) line h given seat step = (refl, refl, (refl, (given, (seat, (wide slot h.0, (step, tt))))))
+line_stands levels (act.FinishTaken slot) line h given seat step = (refl, refl, (refl, (given, (seat, (wide slot h.0, (step, tt))))))
 
 pub word_stands : (levels : ℕ) (line : WordLine) → WordFits line → Stands (word_json line) (suc (suc levels))
 word_stands levels line h = line_stands levels line.act line h.act (word_reply_stands levels line.reply h.reply) (wide line.seat h.seat) (wide line.step h.step)

@@ -7,10 +7,10 @@ use Rattle.serde_json.specs.Data.{Data}
 use Rattle.serde_json.specs.Written.{compact_text}
 use Rattle.irp_types.specs.Rules.{CanShow}
 use Rattle.irp_types.specs.declared.{answer.Answer.Answer, answer.CancelAnswer.CancelAnswer, answer.Plan.Plan}
-use Rattle.irp_types.specs.declared.{answer.Replacement.Replacement, asked.Asked.Asked, call.Party.Party}
-use Rattle.irp_types.specs.declared.{entry.Entry.Entry, location.Owner.Owner, names.CancelId.CancelId}
-use Rattle.irp_types.specs.declared.{names.DeviceId.DeviceId, names.IrpRef.IrpRef, names.LockNo.LockNo}
-use Rattle.irp_types.specs.declared.{reply.Reply.Reply, reply.Seen.Seen, routine.Setting.Setting, shown.Shown.Shown}
+use Rattle.irp_types.specs.declared.{answer.Replacement.Replacement, asked.Asked.Asked}
+use Rattle.irp_types.specs.declared.{entry.Entry.Entry, location.Owner.Owner}
+use Rattle.irp_types.specs.declared.{names.LockNo.LockNo}
+use Rattle.irp_types.specs.declared.{reply.Reply.Reply, reply.Seen.Seen, shown.Shown.Shown}
 use Rattle.irp_types.specs.declared.status.Status.{Status}
 use Rattle.irp_types.specs.declared.answer.CancelAnswer.TheVariants as cancel_answer
 use Rattle.irp_types.specs.declared.answer.Plan.TheVariants as plan
@@ -30,35 +30,13 @@ use Rattle.irp_transcript.specs.declared.word_line.WordReply.TheVariants as word
 use Rattle.irp_transcript_reader.specs.Forms.{has_entry, has_word}
 use Rattle.irp_transcript_reader.specs.Reading.{hands_within, most_bytes, most_entries}
 use Rattle.irp_transcript_writer.specs.Lines.{entry_json, header_json, word_json}
+use Rattle.irp_fast_reader.specs.Parts.{CancelFits, DeviceFits, EachFits, IrpFits, LockFits, SettingFits, StatusFits, act_parts, parts_of}
 
 -- ---- ranges of the parts of an entry
-
-abbrev pub DeviceFits : DeviceId → Type 0
-DeviceFits device = device.0 < 2 ^ 32
-
-abbrev pub CancelFits : CancelId → Type 0
-CancelFits cancel = cancel.0 < 2 ^ 32
-
-abbrev pub LockFits : LockNo → Type 0
-LockFits lock = lock.0 < 2 ^ 32
-
-abbrev pub StatusFits : Status → Type 0
-StatusFits status = status.0 < 2 ^ 32
-
--- a packet whose slot's number has 32 bits, as its use's number has 64
-abbrev pub IrpFits : IrpRef → Type 0
-IrpFits irp = (irp.slot < 2 ^ 32) × (irp.use_no < 2 ^ 64)
-
-abbrev pub PartyFits : Party → Type 0
-PartyFits party.Originator = ⊤
-PartyFits (party.Device device) = DeviceFits device
 
 abbrev pub OwnerFits : Owner → Type 0
 OwnerFits (owner.Device device) = DeviceFits device
 OwnerFits other = ⊤
-
-abbrev pub SettingFits : Setting → Type 0
-SettingFits setting = (setting.routine.no < 2 ^ 32) × (setting.context < 2 ^ 64)
 
 abbrev pub ReplacementFits : Replacement → Type 0
 ReplacementFits replacement = StatusFits replacement.status × (replacement.information < 2 ^ 64)
@@ -86,27 +64,9 @@ AskedFits (asked.Dispatch id shown plan) = (id.0 < 2 ^ 32) × ShownFits shown ×
 AskedFits (asked.Completion id shown answer) = (id.no < 2 ^ 32) × ShownFits shown × AnswerFits answer
 AskedFits (asked.Cancel id shown answer) = CancelFits id × ShownFits shown × CancelAnswerFits answer
 
+-- all that a call tells under its keys fits
 abbrev pub CallFits : Call → Type 0
-CallFits (call.CreateDevice driver lock) = (driver.0 < 2 ^ 32) × LockFits lock
-CallFits (call.Attach device to) = DeviceFits device × DeviceFits to
-CallFits (call.Detach lower) = DeviceFits lower
-CallFits (call.Delete device) = DeviceFits device
-CallFits (call.Allocate size) = size < 2 ^ 8
-CallFits (call.Free irp) = IrpFits irp
-CallFits (call.Reuse irp status) = IrpFits irp × StatusFits status
-CallFits (call.SetNext party irp major word) = PartyFits party × IrpFits irp × (major < 2 ^ 8) × (word < 2 ^ 64)
-CallFits (call.CopyToNext party irp) = PartyFits party × IrpFits irp
-CallFits (call.Skip party irp) = PartyFits party × IrpFits irp
-CallFits (call.SetRoutine party irp setting) = PartyFits party × IrpFits irp × SettingFits setting
-CallFits (call.MarkPending party irp) = PartyFits party × IrpFits irp
-CallFits (call.CallDriver party irp target) = PartyFits party × IrpFits irp × DeviceFits target
-CallFits (call.Complete party irp status information) =
-    PartyFits party × IrpFits irp × StatusFits status × (information < 2 ^ 64)
-CallFits (call.FinishTaken irp token status information) =
-    IrpFits irp × (token < 2 ^ 64) × StatusFits status × (information < 2 ^ 64)
-CallFits (call.SetCancelRoutine party irp cancel) = PartyFits party × IrpFits irp × IfSome cancel CancelFits
-CallFits (call.Cancel irp) = IrpFits irp
-CallFits (call.Look irp) = IrpFits irp
+CallFits call = EachFits (parts_of call)
 
 abbrev pub SeenFits : Seen → Type 0
 SeenFits seen =
@@ -137,16 +97,9 @@ pub record EntryFits (entry : Entry) : Type 0 where
   pub asked : All AskedFits entry.asked
   pub reply : ReplyFits entry.reply
 
+-- all that an act tells under its keys fits
 abbrev pub ActFits : Act → Type 0
-ActFits (act.OnLock (on_lock.Acquire lock tag)) = LockFits lock × (tag < 2 ^ 32)
-ActFits (act.OnLock (on_lock.Release lock tag)) = LockFits lock × (tag < 2 ^ 32)
-ActFits (act.OnLock (on_lock.BeginRemove lock tag)) = LockFits lock × (tag < 2 ^ 32)
-ActFits (act.OnLock (on_lock.Drained lock)) = LockFits lock
-ActFits (act.Hand hand) = LockFits hand.lock × (hand.tag < 2 ^ 32) × (hand.to < 2 ^ 32)
-ActFits (act.OnSlot (on_slot.Publish slot)) = slot < 2 ^ 32
-ActFits (act.OnSlot (on_slot.Withdraw slot)) = slot < 2 ^ 32
-ActFits (act.OnSlot (on_slot.Request slot)) = slot < 2 ^ 32
-ActFits (act.FinishTaken slot) = slot < 2 ^ 32
+ActFits act = EachFits (act_parts act)
 
 abbrev pub WordReplyFits : WordReply → Type 0
 WordReplyFits (word_reply.Busy word) = word < 2 ^ 64

@@ -2,3 +2,4 @@ pub mod Fed
 pub mod Fits
 pub mod Fitting
 pub mod Laws
+pub mod Parts

@@ -3,6 +3,7 @@
 ghost use Rattle.std.specs.Prelude.{◌≡◌, ◌<◌, ◌^◌, ◌↔◌, true};
 ghost use Rattle.std.specs.List.{All};
 ghost use Rattle.irp_fast_reader.specs.Fits as spec;
+ghost use Rattle.irp_fast_reader.specs.Parts.{IrpFits};
 
 use irp_transcript::WordLine;
 use irp_types::{Asked, Call, Entry, IrpRef, LockNo, Reply, Shown};
@@ -17,7 +18,7 @@ fn in_range(number: u64, seat: u32)
 
 /// Whether a packet's slot has 32 bits.
 fn irp_fits(irp: IrpRef) -> bool
-    ensures { result ≡ true ↔ spec.IrpFits irp }
+    ensures { result ≡ true ↔ IrpFits irp }
 {
     irp.slot <= u32::MAX as usize
 }

@@ -6,7 +6,6 @@ use Rattle.std.specs.Option.{ok_or, option_and_then}
 use Rattle.serde_json.specs.Data.{Data}
 use Rattle.serde_json.specs.Find.{get}
 use Rattle.serde_json.specs.Read.{read}
-use Rattle.irp_forms.specs.Calls.{Keys}
 use Rattle.irp_forms.specs.Parts.{only_keys, u32_at}
 use Rattle.irp_types.specs.State.{no_routines}
 use Rattle.irp_types.specs.declared.{answer.Plan.Plan, routine.Known.Known}
@@ -38,13 +37,13 @@ unfoldable pub form_at : Data → Result FormKey ScriptRefusal
 form_at whole = form_of (option_and_then u32_at (get (codes "form") whole))
 
 -- the key that a script of this form has beside those of all forms
-abbrev pub beside : FormKey → Keys
+abbrev pub beside : FormKey → List (List ℕ)
 beside keys.One = []
 beside keys.Two = codes "slots" ∷ []
 beside keys.Three = codes "slots" ∷ []
 
 -- the keys of a script of this form
-abbrev pub its_keys : FormKey → Keys
+abbrev pub its_keys : FormKey → List (List ℕ)
 its_keys given =
     codes "cancels" ∷ codes "completions" ∷ codes "dispatches" ∷ codes "drivers" ∷ codes "form" ∷ codes "locks"
     ∷ codes "seats" ∷ codes "setup" ∷ codes "steps" ∷ beside given

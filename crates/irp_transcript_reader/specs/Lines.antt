@@ -3,7 +3,6 @@ use Rattle.std.specs.Prelude.{ℕ, ◌==◌, List, [], ◌∷◌, length, codes,
 use Rattle.serde_json.specs.Data.{Data}
 use Rattle.serde_json.specs.Find.{get}
 use Rattle.irp_forms.specs.Parts.{◌>>=◌, has_keys, list_at, only_keys, u32_at, u64_at, up_to}
-use Rattle.irp_forms.specs.Calls.{Keys}
 use Rattle.irp_forms.specs.Names.{cancel_rule_at}
 use Rattle.irp_forms.specs.Values.{completions_at, handler_at, known_at}
 use Rattle.irp_types.specs.Limits.{most_routines}
@@ -37,7 +36,7 @@ entry_at form = if has_keys (codes "asked" ∷ codes "call" ∷ codes "n" ∷ co
   })) else None
 
 -- some where there are the keys of both forms and those beside them, and no others
-unfoldable pub header_keys_at : Keys → Data → Option (Unit {0})
+unfoldable pub header_keys_at : List (List ℕ) → Data → Option (Unit {0})
 header_keys_at beside form =
     only_keys (codes "cancels" ∷ codes "completions" ∷ codes "dispatches" ∷ codes "drivers" ∷ codes "form"
     ∷ codes "locks"

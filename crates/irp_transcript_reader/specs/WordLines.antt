@@ -12,6 +12,7 @@ use Rattle.irp_forms.specs.declared.step_names.Act.{Act as Step}
 use Rattle.irp_forms.specs.declared.step_names.Act.TheVariants as word
 use Rattle.irp_forms.specs.declared.told.Told.{Told}
 use Rattle.irp_forms.specs.declared.told.Told.TheVariants as told
+use Rattle.irp_types.specs.declared.names.IrpRef.{IrpRef}
 use Rattle.irp_types.specs.declared.seat_act.SlotAct.TheVariants.{Publish, Withdraw, Request}
 use Rattle.irp_transcript.specs.declared.{word_line.Act.Act, word_line.WordLine.WordLine, word_line.WordReply.WordReply}
 use Rattle.irp_transcript.specs.declared.word_line.Act.TheVariants as acts
@@ -63,13 +64,18 @@ line_keys other = keys_of other
 abbrev pub beside : List (List ℕ)
 beside = codes "do" ∷ codes "reply" ∷ codes "seat" ∷ codes "step" ∷ []
 
+-- the cancel slot that stands alone under the keys of a step
+abbrev pub slot_of : List (Told IrpRef) → Option ℕ
+slot_of (told.Number slot ∷ []) = Some slot
+slot_of other = None
+
 -- what a step did, by what stands under its keys
-unfoldable pub act_of : Step → List (Told (Unit {0})) → Option Act
+unfoldable pub act_of : Step → List (Told IrpRef) → Option Act
 act_of word.Hand told = option_map acts.Hand (hand_of told)
-act_of word.Publish (told.Number slot ∷ []) = Some (acts.OnSlot (Publish slot))
-act_of word.Withdraw (told.Number slot ∷ []) = Some (acts.OnSlot (Withdraw slot))
-act_of word.Request (told.Number slot ∷ []) = Some (acts.OnSlot (Request slot))
-act_of word.FinishTaken (told.Number slot ∷ []) = Some (acts.FinishTaken slot)
+act_of word.Publish told = option_map (λ slot. acts.OnSlot (Publish slot)) (slot_of told)
+act_of word.Withdraw told = option_map (λ slot. acts.OnSlot (Withdraw slot)) (slot_of told)
+act_of word.Request told = option_map (λ slot. acts.OnSlot (Request slot)) (slot_of told)
+act_of word.FinishTaken told = option_map acts.FinishTaken (slot_of told)
 act_of other told = option_map acts.OnLock (lock_act_of other told)
 
 -- what a step did, by the name under `do`

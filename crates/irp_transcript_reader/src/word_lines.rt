@@ -7,7 +7,7 @@ ghost use Rattle.irp_transcript_reader.specs.WordLines as spec;
 
 use irp_forms::{Act as Step, Part, StepKey, Told, hand_of, has_keys, lock_act_of, told_at, under};
 use irp_transcript::{Act, WordLine, WordReply};
-use irp_types::SlotAct;
+use irp_types::{IrpRef, SlotAct};
 use serde_json::Value;
 
 /// A step's answer by its name: those of remove locks, then those of cancel slots.
@@ -77,16 +77,27 @@ fn line_keys(step: Step) -> &'static [StepKey]
     }
 }
 
+/// The cancel slot that stands alone under the keys of a step.
+fn slot_of(told: &[Told<IrpRef>]) -> Option<u32>
+    ensures { result ≡ spec.slot_of told.now }
+{
+    match told {
+        &[Told::Number(slot)] => Some(slot),
+        _ => None,
+    }
+}
+
 /// What a step did, by what stands under its keys in a word line.
-fn act_of(step: Step, told: &[Told<()>]) -> Option<Act>
+#[tactic(auto, unfolding(crate::specs::WordLines::act_of))]
+fn act_of(step: Step, told: &[Told<IrpRef>]) -> Option<Act>
     ensures { result ≡ spec.act_of step told.now }
 {
-    match (step, told) {
-        (Step::Hand, _) => hand_of(told).map(Act::Hand),
-        (Step::Publish, &[Told::Number(slot)]) => Some(Act::OnSlot(SlotAct::Publish { slot })),
-        (Step::Withdraw, &[Told::Number(slot)]) => Some(Act::OnSlot(SlotAct::Withdraw { slot })),
-        (Step::Request, &[Told::Number(slot)]) => Some(Act::OnSlot(SlotAct::Request { slot })),
-        (Step::FinishTaken, &[Told::Number(slot)]) => Some(Act::FinishTaken { slot }),
+    match step {
+        Step::Hand => hand_of(told).map(Act::Hand),
+        Step::Publish => slot_of(told).map(|slot| Act::OnSlot(SlotAct::Publish { slot })),
+        Step::Withdraw => slot_of(told).map(|slot| Act::OnSlot(SlotAct::Withdraw { slot })),
+        Step::Request => slot_of(told).map(|slot| Act::OnSlot(SlotAct::Request { slot })),
+        Step::FinishTaken => slot_of(told).map(|slot| Act::FinishTaken { slot }),
         _ => lock_act_of(step, told).map(Act::OnLock),
     }
 }
