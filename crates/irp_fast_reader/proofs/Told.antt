@@ -15,7 +15,7 @@ use Rattle.irp_fast_reader.proofs.Values.{cancel_or_null_back, device_back, irp_
 use Rattle.irp_fast_reader.specs.Parts.{EachFits, ToldFits}
 
 -- what is read where this was written
-pub read_again : Told IrpRef → Option (Told IrpRef)
+abbrev pub read_again : Told IrpRef → Option (Told IrpRef)
 read_again (told.Driver driver) = option_map told.Driver (driver_at (natural driver.0))
 read_again (told.Device device) = option_map told.Device (device_at (device_json device))
 read_again (told.Lock lock) = option_map told.Lock (lock_at (lock_json lock))
@@ -56,7 +56,8 @@ each_as_all (key ∷ keys) packet form =
 
 all_back : (parts : List (Told IrpRef)) → EachFits parts → all_of (map read_again parts) ≡ Some parts
 all_back [] h = refl
-all_back (part ∷ parts) h = rw (part_back part h.0, all_back parts h.1) refl
+all_back (part ∷ []) h = rw (part_back part h) refl
+all_back (part ∷ next ∷ parts) h = rw (part_back part h.0, all_back (next ∷ parts) h.1) refl
 
 -- where these parts were written under the keys, these are read
 pub parts_back : (keys : List Key) (parts : List (Told IrpRef)) (packet : Option IrpRef) (form : Data)

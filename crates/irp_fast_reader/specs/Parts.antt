@@ -1,5 +1,5 @@
 -- What a call and an act of a word line tell under their keys, each within its range.
-use Rattle.std.specs.Prelude.{ℕ, ◌^◌, ◌<◌, List, [], ◌∷◌, IfSome, ⊤}
+use Rattle.std.specs.Prelude.{◌^◌, ◌<◌, List, [], ◌∷◌, IfSome, ⊤}
 use Rattle.irp_forms.specs.declared.told.Told.{Told}
 use Rattle.irp_forms.specs.declared.told.Told.TheVariants as told
 use Rattle.irp_types.specs.Calls.{Call}
@@ -55,7 +55,8 @@ ToldFits told.Other = ⊤
 
 abbrev pub EachFits : List (Told IrpRef) → Type 0
 EachFits [] = ⊤
-EachFits (part ∷ others) = ToldFits part × EachFits others
+EachFits (part ∷ []) = ToldFits part
+EachFits (part ∷ next ∷ others) = ToldFits part × EachFits (next ∷ others)
 
 -- ---- what stands under the keys, in their order
 
