@@ -118,7 +118,3 @@ module _ (old : Reader) (text : List ℕ) (before : TranscriptValue) (read : Has
       let here = reads_behind 0 no_lines before (cut text).0 [] (cut text).1 (Err (LineFault (length (cut text).0 + 1))) read.lines (0, omega arith, (refl, rest)) in
       subst (λ (given : ℕ × List (List ℕ)). ReadsFrom no_lines 0 (Err (LineFault (given.0 + 1))) (given.1, (cut text).1))
       (λ i. (sym read.counted i, append-nil (cut text).0 i)) here
-
--- a line that is too long is refused
-pub refuses_long : (before : TranscriptValue) (line : List ℕ) → most_bytes < length line → Refuses before line
-refuses_long before line long = λ after taken. omega (arith, long, taken.1.0)

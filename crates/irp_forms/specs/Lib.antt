@@ -4,5 +4,6 @@ pub mod Found
 pub mod Values
 pub mod Questions
 pub mod Fields
-pub mod Calls
-pub mod SeatActs
+pub mod KeyParts
+pub mod Steps
+pub mod Told

@@ -18,7 +18,7 @@ pub fn has_items(value: &Value, count: usize) -> bool
 }
 
 /// How many members an object has, or 0.
-fn count_members(value: &Value) -> usize
+pub fn count_members(value: &Value) -> usize
     ensures { result ≡ spec.count_members (view value.now) }
 {
     match value {
@@ -28,7 +28,7 @@ fn count_members(value: &Value) -> usize
 }
 
 /// Whether each of these keys is there.
-fn has_each(value: &Value, keys: &[&str]) -> bool
+pub fn has_each(value: &Value, keys: &[&str]) -> bool
     ensures { result ≡ spec.each_key (keys_in keys.now) (view value.now) }
 {
     for key in keys {

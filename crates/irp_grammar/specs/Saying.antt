@@ -22,8 +22,8 @@ use Rattle.irp_script_reader.specs.declared.refusal.ScriptFault.TheVariants as s
 use Rattle.irp_script_reader.specs.declared.script.{ScriptForm.ScriptForm, ScriptParts.ScriptParts}
 use Rattle.irp_script_reader.specs.declared.script.ScriptForm.TheVariants as forms
 use Rattle.irp_names.specs.declared.plan_kinds.PlanKind.TheVariants as kind
-use Rattle.irp_names.specs.declared.step_names.Act.{Act}
-use Rattle.irp_names.specs.declared.step_names.Act.TheVariants as word
+use Rattle.irp_forms.specs.declared.step_names.Act.{Act}
+use Rattle.irp_forms.specs.declared.step_names.Act.TheVariants as word
 use Rattle.irp_grammar.specs.declared.step_line.{PlanLine.PlanLine, StepLine.StepLine, Value.Value}
 use Rattle.irp_grammar.specs.declared.step_line.Value.TheVariants as value
 use Rattle.irp_grammar.specs.declared.{cursor.WordsFault.WordsFault, law.Told.Told, law.Untold.Untold, said.Said.Said}

@@ -4,8 +4,8 @@
 use crate::cursor::Cursor;
 use crate::said::Said;
 use crate::wanted::Wanted;
-use irp_forms::{HasName, named};
-use irp_names::{Act, Part, Sink};
+use irp_forms::{Act, HasName, Part, named};
+use irp_names::Sink;
 use irp_script_reader::{AnswerWord, Condition, ExpectedAnswer};
 use irp_types::{CancelId, Refusal, Status};
 

@@ -1,7 +1,8 @@
 //! The names that a text gives, each for a number from its line on.
 
 use crate::numbers::{begins_with_digit, number_in};
-use irp_names::{Part, major_named, minor_named, status_named};
+use irp_forms::Part;
+use irp_names::{major_named, minor_named, status_named};
 use irp_types::{RoutineId, Rule};
 use std::alloc::{AllocError, Global};
 

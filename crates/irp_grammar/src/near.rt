@@ -3,7 +3,8 @@
 use crate::condition::ANSWERS;
 use crate::names::{Names, named_as};
 use crate::wanted::Wanted;
-use irp_names::{Act, Part, PlanKind, major_name, minor_at, rule_names, status_names};
+use irp_forms::{Act, Part};
+use irp_names::{PlanKind, major_name, minor_at, rule_names, status_names};
 use std::alloc::{AllocError, Global};
 use strsim::levenshtein;
 

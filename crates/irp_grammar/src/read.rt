@@ -7,7 +7,7 @@ use crate::members::count_of;
 use crate::numbers::begins_with_digit;
 use crate::said::{MOST_FAULTS, Said};
 use crate::wanted::Wanted;
-use irp_names::Part;
+use irp_forms::Part;
 use irp_script_reader::Section;
 use std::alloc::{AllocError, Global};
 

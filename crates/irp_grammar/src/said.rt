@@ -8,7 +8,7 @@ use crate::names::{Name, Names, is_name};
 use crate::near::hint;
 use crate::step_line::{PlanLine, StepLine};
 use crate::wanted::{StepFault, Wanted};
-use irp_names::{Act, Part};
+use irp_forms::{Act, Part};
 use irp_script_reader::{CompletionRoutine, Condition, ScriptRefusal, Section};
 use irp_types::{CancelAnswer, DispatchId, Known, Row, Rule};
 use std::alloc::{AllocError, Global};

@@ -4,7 +4,8 @@ ghost use Rattle.std.specs.Prelude.{◌≡◌};
 ghost use Rattle.irp_grammar.specs.Saying as spec;
 
 use Value::{Absent, Number, Packet, Set};
-use irp_names::{Act, PlanKind, StepPlace};
+use irp_forms::{Act, StepPlace};
+use irp_names::PlanKind;
 use irp_script_reader::{Condition, Named, Step, StepAct};
 use irp_types::{Call, CancelId, Hand, LockAct, Party, Plan, Setting};
 

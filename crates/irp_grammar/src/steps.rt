@@ -4,7 +4,7 @@ use crate::cursor::Cursor;
 use crate::said::Said;
 use crate::step_line::{NONE, StepLine, Value, Values};
 use crate::wanted::Wanted;
-use irp_names::{Act, Part};
+use irp_forms::{Act, Part};
 use irp_script_reader::{Condition, Section};
 
 /// What stands before a step on its line: the section above, its seat, and what it hangs on.

@@ -10,8 +10,8 @@ use crate::members::{count_of, with_one};
 use crate::names::named_as;
 use crate::step_line::{PlanLine, StepLine, Value, line_of, plan_line};
 use crate::to_json::letters;
-use irp_forms::HasName;
-use irp_names::{Part, Sink, major_name, minor_name, status_name};
+use irp_forms::{HasName, Part};
+use irp_names::{Sink, major_name, minor_name, status_name};
 use irp_script_reader::{
     Behaviour, CompletionRoutine, Condition, ExpectedAnswer, Named, ScriptFault, ScriptForm,
     ScriptParts, Step, read_script,

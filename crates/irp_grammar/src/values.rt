@@ -6,8 +6,7 @@ use crate::numbers::number_in;
 use crate::said::Said;
 use crate::step_line::{NONE, Value, Values};
 use crate::wanted::Wanted;
-use irp_forms::{Flags, flags_named, named};
-use irp_names::{Act, Part};
+use irp_forms::{Act, Flags, Part, flags_named, named};
 use irp_script_reader::Named;
 use irp_types::{IrpRef, RoutineId, Rule, Setting};
 

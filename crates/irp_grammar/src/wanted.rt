@@ -1,7 +1,8 @@
 //! What was expected in the place of a word.
 
 use crate::names::named_as;
-use irp_names::{Act, Part, Sink};
+use irp_forms::{Act, Part};
+use irp_names::Sink;
 use irp_script_reader::{MemberFault, ScriptRefusal, Section};
 
 /// What was expected in the place of a word (this project's own rule).

@@ -8,9 +8,8 @@ use Rattle.std.proofs.lemmas.Option.{none-some, same_Some}
 use Rattle.irp_types.specs.Limits.{most_locations}
 use Rattle.irp_types.specs.Rules.{is_known}
 use Rattle.irp_types.specs.Checks.{Check, first_failing, or_else}
-use Rattle.irp_types.specs.Packet.{PacketValue, size_of, location_at, location_with, with_location, with_status, cleared, new_packet, is_nothing, is_filled, is_skipped, lower_check, major_check, location_check, skip_check, is_above_top, set_next_refusal, copy_to_next_refusal, skip_refusal, set_routine_refusal, mark_pending_refusal, after_set_next, after_copy, after_skip, after_set_routine, after_mark, after_take, after_reset}
+use Rattle.irp_types.specs.Packet.{PacketValue, size_of, location_at, location_with, with_location, with_status, cleared, new_packet, is_nothing, is_filled, is_skipped, lower_check, major_check, location_check, skip_check, is_above_top, set_next_refusal, copy_to_next_refusal, skip_refusal, set_routine_refusal, mark_pending_refusal, after_set_next, after_copy, after_skip, after_set_routine, after_mark, after_reset}
 use Rattle.irp_types.specs.Refusals.{has_ended, is_owned_by_device, leave_refusal, routine_refusal, cancel_refusal}
-use Rattle.irp_types.specs.Steps.{after_cancel}
 use Rattle.irp_types.specs.Standing.{lowest_location, own_location, IsSound}
 use Rattle.irp_types.specs.declared.status.Status.{Status}
 use Rattle.irp_types.specs.declared.names.CancelId.{CancelId}
@@ -67,22 +66,6 @@ sound_with_status counts packet status information sound = record {
   routines = sound.routines;
   cancel = λ routine there. let cancellable = sound.cancel routine there in record { there = cancellable.there; held = cancellable.held; unskipped = cancellable.unskipped };
   slots = λ is. let kept = sound.slots is in record { held = kept.held; no_routine = kept.no_routine; unprepared = kept.unprepared };
-  keepers = sound.keepers;
-}
-
-pub sound_take : (counts : Known) (packet : PacketValue) → IsSound counts packet → IsSound counts (after_take packet)
-sound_take counts packet sound = record {
-  some = sound.some;
-  few = sound.few;
-  placed = sound.placed;
-  within = sound.within;
-  prepared = sound.prepared;
-  marked = sound.marked;
-  devices = sound.devices;
-  originator = sound.originator;
-  routines = sound.routines;
-  cancel = λ routine there. let cancellable = sound.cancel routine there in record { there = cancellable.there; held = cancellable.held; unskipped = cancellable.unskipped };
-  slots = λ is. absurd (false≢true is);
   keepers = sound.keepers;
 }
 
@@ -338,22 +321,6 @@ sound_set_cancel counts packet cancel used unheld none sound =
 pub sound_reset : (counts : Known) (packet : PacketValue) (status : Status) → IsSound counts packet → IsSound counts (after_reset packet status)
 sound_reset counts packet status sound = sound_with_status counts (new_packet (size_of packet)) status 0 (sound_new counts (size_of packet) sound.some sound.few)
 
-pub sound_cancel : (counts : Known) (packet : PacketValue) → IsSound counts packet → IsSound counts (after_cancel packet)
-sound_cancel counts packet sound = record {
-  some = sound.some;
-  few = sound.few;
-  placed = sound.placed;
-  within = sound.within;
-  prepared = sound.prepared;
-  marked = sound.marked;
-  devices = sound.devices;
-  originator = sound.originator;
-  routines = sound.routines;
-  cancel = λ routine there. absurd (none-some routine there);
-  slots = λ is. let kept = sound.slots is in record { held = kept.held; no_routine = refl; unprepared = kept.unprepared };
-  keepers = sound.keepers;
-}
-
 -- a packet that its device owns and did not skip stands in a location: the device's own, which is marked
 stands_here : (counts : Known) (packet : PacketValue) → IsSound counts packet → is_skipped packet.preparation ≡ false → is_owned_by_device packet.owner ≡ true → packet.current ≤ size_of packet
 stands_here counts packet sound unskipped held =
@@ -388,11 +355,3 @@ pub held_here : (counts : Known) (packet : PacketValue) → IsSound counts packe
 held_here counts packet sound is =
     let held = sound.slots is in
     stands_here counts packet sound (unprepared_unskipped packet.preparation held.unprepared) held.held
-
--- a packet with a cancel routine stands in no cancel slot
-pub cancellable_unheld : (counts : Known) (packet : PacketValue) (routine : CancelId) → IsSound counts packet → packet.cancel_routine ≡ Some routine → packet.slot_held ≡ false
-cancellable_unheld counts packet routine sound there = by packet.slot_held refl
-  where
-    by : (held : Bool) → packet.slot_held ≡ held → held ≡ false
-    by false is = refl
-    by true is = absurd (none-some routine (sym (sound.slots is).no_routine ∙ there))

@@ -4,32 +4,9 @@ use Rattle.std.specs.Fmt.{decimal}
 use Rattle.irp_types.specs.Calls.{Call}
 use Rattle.irp_types.specs.declared.call.Call.TheVariants as call
 use Rattle.irp_types.specs.declared.routine.Setting.{Setting}
-use Rattle.irp_names.specs.declared.step_names.Act.{Act}
-use Rattle.irp_names.specs.declared.step_names.Act.TheVariants as act
 use Rattle.irp_names.specs.Majors.{major_text}
 use Rattle.irp_names.specs.Small.{hex_text, packet_text, routine_text, cancel_text}
 use Rattle.irp_names.specs.Statuses.{status_text, result_text}
-
--- the step that makes a call
-abbrev pub act_of : Call → Act
-act_of (call.CreateDevice driver lock) = act.CreateDevice
-act_of (call.Attach device to) = act.Attach
-act_of (call.Detach lower) = act.Detach
-act_of (call.Delete device) = act.Delete
-act_of (call.Allocate size) = act.Allocate
-act_of (call.Free irp) = act.Free
-act_of (call.Cancel irp) = act.Cancel
-act_of (call.Look irp) = act.Look
-act_of (call.Reuse irp status) = act.Reuse
-act_of (call.SetNext party irp major word) = act.SetNext
-act_of (call.CopyToNext party irp) = act.CopyToNext
-act_of (call.Skip party irp) = act.Skip
-act_of (call.MarkPending party irp) = act.MarkPending
-act_of (call.SetRoutine party irp setting) = act.SetRoutine
-act_of (call.CallDriver party irp target) = act.CallDriver
-act_of (call.Complete party irp status information) = act.Complete
-act_of (call.SetCancelRoutine party irp cancel) = act.SetCancelRoutine
-act_of (call.FinishTaken irp token status information) = act.FinishTaken
 
 -- the routine of Windows that a call stands for
 abbrev pub call_name : Call → List ℕ

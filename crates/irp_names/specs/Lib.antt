@@ -3,7 +3,6 @@ pub mod Calls
 pub mod Closures
 pub mod Majors
 pub mod Minors
-pub mod Parts
 pub mod Plans
 pub mod Refusals
 pub mod Replies
@@ -11,4 +10,3 @@ pub mod Rows
 pub mod Sinks
 pub mod Small
 pub mod Statuses
-pub mod Steps

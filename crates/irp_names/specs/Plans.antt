@@ -3,7 +3,7 @@ use Rattle.std.specs.Prelude.{ℕ, get_or, List, [], map, Option}
 use Rattle.std.specs.List.{find, slice_get}
 use Rattle.std.specs.Option.{option_map}
 use Rattle.std.proofs.Common.{bytes_eq}
-use Rattle.irp_names.specs.declared.parts.Part.{Part}
+use Rattle.irp_forms.specs.declared.key_parts.Part.{Part}
 use Rattle.irp_names.specs.declared.plan_kinds.PlanKind.{PlanKind}
 use Rattle.irp_names.specs.declared.plan_kinds.PlanKind.TheVariants as kind
 use Rattle.irp_names.specs.declared.plan_kinds.TheConstants.{PLANS}

@@ -5,9 +5,9 @@ pub use Rattle.irp_types.specs.Refusal.{refusal_meaning, refusal_name}
 use Rattle.irp_types.specs.Calls.{Call}
 use Rattle.irp_types.specs.declared.refusal.Refusal.{Refusal}
 use Rattle.irp_types.specs.declared.refusal.Refusal.TheVariants as refusal
-use Rattle.irp_names.specs.Calls.{act_of}
-use Rattle.irp_names.specs.declared.step_names.Act.{Act}
-use Rattle.irp_names.specs.declared.step_names.Act.TheVariants as act
+use Rattle.irp_forms.specs.Steps.{act_of}
+use Rattle.irp_forms.specs.declared.step_names.Act.{Act}
+use Rattle.irp_forms.specs.declared.step_names.Act.TheVariants as act
 
 -- the name in Windows of the mistake for which such a call is refused so, if there is one
 abbrev pub completion_name : Refusal → Option (List ℕ)

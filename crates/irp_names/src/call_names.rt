@@ -8,7 +8,7 @@ use crate::closures::SettingWords;
 use crate::majors::MajorWords;
 use crate::small::{Hex, PacketWords};
 use crate::statuses::{ResultWords, StatusWords};
-use crate::step_names::act_of;
+use irp_forms::act_of;
 use irp_types::{Call, CancelId};
 use std::fmt;
 

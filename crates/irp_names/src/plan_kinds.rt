@@ -3,7 +3,7 @@
 ghost use Rattle.std.specs.Prelude.{◌≡◌, ◌<◌, [], Some, get_or, length, map};
 ghost use Rattle.irp_names.specs.Plans as spec;
 
-use crate::parts::Part;
+use irp_forms::Part;
 
 /// What a dispatch plans, by its name.
 #[derive(Clone, Copy, PartialEq, Eq)]

@@ -4,7 +4,7 @@ ghost use Rattle.std.specs.Prelude.{◌≡◌, Some};
 ghost use Rattle.std.specs.Option.{option_map};
 ghost use Rattle.irp_names.specs.Refusals.{completion_name, delete_name, mistake_name, refusal_text, reuse_name, sending_name, windows_name};
 
-use crate::step_names::{Act, act_of};
+use irp_forms::{Act, act_of};
 use irp_types::{Call, Refusal, refusal_meaning, refusal_name};
 use std::fmt;
 

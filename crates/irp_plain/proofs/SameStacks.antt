@@ -120,13 +120,3 @@ same_devices one other all =
     let facts = same_reads one.facts other.facts all.counted (λ k below. (all.alike k below).facts) in
     let stacks = same_stacks one other all in
     λ i. record { facts = facts i; stacks = stacks i }
-
--- equal devices are shown alike
-pub equal_alike : (one other : DevicesValue) → one ≡ other → (device : ℕ) → IsAlike one other device
-equal_alike one other is device = record {
-  facts = ap (λ (devices : DevicesValue). slice_get devices.facts device) is;
-  height = ap (λ (devices : DevicesValue). length (stack_of devices device)) is;
-  place = ap (λ (devices : DevicesValue). depth_of devices device + 1) is;
-  lower = ap (λ (devices : DevicesValue). lower_of devices device) is;
-  upper = ap (λ (devices : DevicesValue). upper_of devices device) is;
-}

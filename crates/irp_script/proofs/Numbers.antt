@@ -40,11 +40,6 @@ sum_same f g (x ∷ xs) (y ∷ ys) len same =
     let right : sum_by f (x ∷ xs) ≡ f x + sum_by f xs = sum_by-cons f x xs in
     omega (arith, first, rest, left, right)
 
--- none is counted where there is none
-pub count_none : {S T : Type 0} (f : S → T) (test : T → Bool) (xs : List S) → length xs ≡ 0 → count_by test (map f xs) ≡ 0
-count_none f test [] is = refl
-count_none f test (x ∷ xs) is = absurd (omega arith)
-
 pub sum_none : {S : Type 0} (f : S → ℕ) (xs : List S) → length xs ≡ 0 → sum_by f xs ≡ 0
 sum_none f [] is = refl
 sum_none f (x ∷ xs) is = absurd (omega arith)
@@ -61,11 +56,6 @@ dealt f all i new old left fewer total one is within more taken so_far =
 pub if_ok_on : {T E : Type 0} (result : Result T E) {P Q : T → Type 0} → ((value : T) → P value → Q value) → IfOk result P → IfOk result Q
 if_ok_on (Ok value) step holds = step value holds
 if_ok_on (Err fault) step holds = holds
-
--- what follows of each answer by two facts follows where there is one
-pub if_ok_both : {T E : Type 0} (result : Result T E) {P Q R : T → Type 0} → ((value : T) → P value → Q value → R value) → IfOk result P → IfOk result Q → IfOk result R
-if_ok_both (Ok value) step holds also = step value holds also
-if_ok_both (Err fault) step holds also = holds
 
 -- what a function gives of so many numbers from one on, together
 abbrev pub sum_from : (ℕ → ℕ) → ℕ → ℕ → ℕ

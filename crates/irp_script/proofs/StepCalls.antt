@@ -1,6 +1,5 @@
 -- The calls of steps: none needs a token, and none depends on the packet that its step names, but for the packet.
-use Rattle.std.proofs.Common.{◌≡◌, Bool, true, false, Option, Some, None, refl, sym, subst, ap, ◌∙◌}
-use mathlib.Core.Bool.{true≢false}
+use Rattle.std.proofs.Common.{◌≡◌, Bool, true, false, Option, Some, refl, sym, subst, ap, ◌∙◌}
 use Rattle.std.specs.Option.{option_map}
 use Rattle.std.specs.Prelude.{IfSome, is_some}
 use Rattle.irp_types.specs.declared.names.IrpRef.{IrpRef}
@@ -55,7 +54,3 @@ nameless_of act irp made is = sym (each_call act irp).0 ∙ ap (option_map namel
 
 pub tokenless : (act : StepAct) (irp : IrpRef) (made : Call) → call_of act irp ≡ Some made → needs_token made ≡ false
 tokenless act irp made is = let here : IfSome (Some made) Tokenless = subst (λ (found : Option Call). IfSome found Tokenless) is (each_call act irp).1 in here
-
--- an act whose kind is to make a call makes one
-pub makes_one : (act : StepAct) (irp : IrpRef) → kind_of act ≡ Calls → call_of act irp ≡ None → ⊥
-makes_one act irp calls none = true≢false (sym (ap is_some (sym none) ∙ (each_call act irp).2 ∙ ap is_call calls))

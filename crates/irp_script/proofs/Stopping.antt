@@ -1,19 +1,17 @@
 -- Why steps aren't made.
-use Rattle.std.proofs.Common.{◌≡◌, ◌<◌, ◌≤◌, ℕ, zero, suc, OnOk, take, ◌++◌, true, false, get_or, arith, Option, Some, None, List, [], ◌∷◌, Contains, length, map, refl, sym, subst, ap, ◌∙◌, inr}
+use Rattle.std.proofs.Common.{◌≡◌, ◌<◌, ℕ, zero, suc, OnOk, take, ◌++◌, true, false, get_or, arith, Option, Some, None, List, [], ◌∷◌, Contains, length, map, refl, sym, subst, ap, ◌∙◌, inr}
 use mathlib.Core.Bool.{true≢false}
 use Rattle.std.specs.Prelude.{IfNone, MatchResult, Ok, Err, Result, slice_get, is_some}
 use Rattle.std.specs.Option.{option_or, unwrap_or}
-use Rattle.std.proofs.lemmas.List.{take_all}
 use Rattle.std.proofs.lemmas.Option.{get_or_from_slice_get, none-some, same_Some, slice_get-get_or, slice_get_within}
 use Rattle.std.proofs.lemmas.Simd.{map-map}
 use Rattle.irp_manager.specs.declared.not_recorded.NotRecorded.{NotRecorded}
 use Rattle.irp_manager.specs.declared.not_recorded.NotRecorded.TheVariants as not_recorded
-use Rattle.irp_types.specs.declared.seat_act.Hand.{Hand}
 use Rattle.irp_script_reader.specs.declared.act.Step.{Step}
 use Rattle.irp_script.specs.Outcomes.{own_placed}
 use Rattle.irp_steps.specs.StepKinds.{kind_of}
-use Rattle.irp_script.specs.Stops.{IsAlone, IsUnmade, IsUnrecorded, unrecorded}
-use Rattle.irp_script.specs.Working.{AloneStops, AtWork, HandStops, HasSeat, IsStopAt, MakesBy, MakesEach, MakesHand, MakesOwn, StopsAt, StopsBy, Working, first_stop}
+use Rattle.irp_script.specs.Stops.{IsUnmade, IsUnrecorded, unrecorded}
+use Rattle.irp_script.specs.Working.{AloneStops, AtWork, HasSeat, IsStopAt, MakesEach, MakesOwn, StopsAt, StopsBy, Working, first_stop}
 use Rattle.irp_steps.specs.declared.step_kind.StepKind.{StepKind}
 use Rattle.irp_steps.specs.declared.step_kind.StepKind.TheVariants.{Calls, OnLock, Hands, OnSlot, Finishes}
 use Rattle.irp_script.specs.declared.stop.Stop.{Stop}
@@ -58,21 +56,6 @@ by_alone step (OnLock on) seats reason other stops = stops
 by_alone step (OnSlot on) seats reason other stops = stops
 by_alone step (Finishes slot status information) seats reason other stops = stops
 
--- a step that isn't a hand is made by one seat alone
-pub alone_so : (kind : StepKind) → ((hand : _) → kind ≡ Hands hand → ⊥) → IsAlone kind
-alone_so (Hands hand) other = other hand refl
-alone_so Calls other = tt
-alone_so (OnLock on) other = tt
-alone_so (OnSlot on) other = tt
-alone_so (Finishes slot status information) other = tt
-
--- what becomes of a hand becomes of a step that is one
-pub by_hand : {T : Type 0} (result : Result T StopReason) (count place : ℕ) (step : Step) (kind : StepKind) (hand : Hand) (before after : Working) (seats : List AtWork) → kind ≡ Hands hand
-    → MatchResult result (λ _. MakesHand count place step hand before after) (λ why. (after ≡ before) × HandStops step hand seats why)
-    → MatchResult result (λ _. MakesBy count place step kind before after) (λ why. (after ≡ before) × StopsBy kind step seats why)
-by_hand result count place step kind hand before after seats is made =
-    subst (λ k. MatchResult result (λ _. MakesBy count place step k before after) (λ why. (after ≡ before) × StopsBy k step seats why)) (sym is) made
-
 pub by_unmade : (step : Step) (kind : StepKind) (seats : List AtWork) (reason : StopReason) (at : ℕ) (own : AtWork) → slice_get seats at ≡ Some own → own.seat.number ≡ step.seat
     → IsUnmade kind own.seat.seen own.parties reason → StopsBy kind step seats reason
 by_unmade step (Hands hand) seats reason at own there named unmade = absurd unmade
@@ -110,17 +93,6 @@ stops_own count number workers steps i d before old new n w stop given lt made s
         (subst (λ k. IsStopAt number k i (get_or steps i d) old stop) same_workers
         (subst (λ k. IsStopAt k w i (get_or steps i d) old stop) same_number here))),
   );
-}
-
--- it made all of its own
-pub all_own : (count number workers : ℕ) (steps : List Step) (i : ℕ) (before new : Working) (given : Option Stop) → length steps ≤ i
-    → MakesEach count (own_placed number workers (take i steps)) before new → given ≡ None → MakesOwn count number workers steps before new given
-all_own count number workers steps i before new given over made is = record {
-  reached = length steps;
-  within = omega arith;
-  each = subst (λ some. MakesEach count (own_placed number workers some) before new) (take_all i steps over ∙ sym (take_all (length steps) steps (omega arith))) made;
-  all = λ none. refl;
-  next = λ told is_told. absurd (none-some told (sym is ∙ is_told));
 }
 
 -- ---- of all workers

@@ -8,7 +8,7 @@ ghost use Rattle.irp_script_reader.specs.Acts as spec;
 use crate::act::{Named, Step, StepAct};
 use crate::condition::Condition;
 use crate::labels::{is_label, packet_in};
-use irp_forms::{FromValue, call_named, hand_at, lock_act_named, only_keys, slot_alone_at, under};
+use irp_forms::{Act, FromValue, Told, call_of, hand_of, lock_act_of, told_at, under};
 use irp_types::Call;
 use serde_json::Value;
 
@@ -17,58 +17,69 @@ fn beside(value: &Value) -> &'static [&'static str]
     ensures { keys_in result.now ≡ spec.beside (view value.now) }
 {
     if value.get("if").is_some() {
-        &["if", "seat"]
+        &["do", "if", "seat"]
     } else {
-        &["seat"]
+        &["do", "seat"]
     }
 }
 
-/// This packet finished, which was taken from a slot.
-fn finish_taken_at(beside: &[&str], packet: Option<Named>, value: &Value) -> Option<StepAct>
-    ensures { result ≡ spec.finish_taken_at (keys_in beside.now) packet (view value.now) }
+/// A new packet of this size, where the step names it by a label, and this is the label's place.
+fn allocate_at(size: u8, place: usize, value: &Value) -> Option<StepAct>
+    ensures { result ≡ spec.allocate_at size place (view value.now) }
 {
-    let keys = &["do", "information", "irp", "slot", "status"];
-    only_keys(value, keys, beside)?;
-    Some(StepAct::Call(Call::FinishTaken {
-        irp: packet?,
-        token: under("slot", value)?,
-        status: under("status", value)?,
-        information: under("information", value)?,
-    }))
+    let label = value.get("as").and_then(Value::as_str)?;
+    is_label(label).then_some(StepAct::Allocate { size, label: place })
+}
+
+/// What a step does that makes a call or an act on a remove lock, by what stands under its keys.
+fn shared_act_of(act: Act, told: &[Told<Named>]) -> Option<StepAct>
+    ensures { result ≡ spec.shared_act_of act told.now }
+{
+    match lock_act_of(act, told) {
+        Some(on) => Some(StepAct::OnLock(on)),
+        None => call_of(act, told).map(StepAct::Call),
+    }
+}
+
+/// What a step does, by what stands under its keys, where a label that it names has this place.
+fn step_act_of(act: Act, told: &[Told<Named>], place: usize, value: &Value) -> Option<StepAct>
+    ensures { result ≡ spec.step_act_of act told.now place (view value.now) }
+{
+    match (act, told) {
+        (Act::Allocate, &[Told::Byte(size), Told::Other]) => allocate_at(size, place, value),
+        (Act::Allocate, _) => None,
+        (Act::Hand, _) => hand_of(told).map(StepAct::Hand),
+        (Act::Publish, &[Told::Number(slot), Told::Packet(irp)]) => {
+            Some(StepAct::Publish { slot, irp })
+        }
+        (Act::Withdraw, &[Told::Number(slot)]) => Some(StepAct::Withdraw { slot }),
+        (Act::Request, &[Told::Number(slot)]) => Some(StepAct::Request { slot }),
+        (
+            Act::FinishTaken,
+            &[
+                Told::Packet(irp),
+                Told::Number(token),
+                Told::Status(status),
+                Told::Long(information),
+            ],
+        ) => Some(StepAct::Call(Call::FinishTaken {
+            irp,
+            token,
+            status,
+            information,
+        })),
+        _ => shared_act_of(act, told),
+    }
 }
 
 /// What a step does, where a label that it names has this place.
 #[tactic(auto, unfolding(crate::specs::Acts::act_at))]
-fn act_at(beside: &[&str], place: usize, value: &Value) -> Option<StepAct>
-    ensures { result ≡ spec.act_at (keys_in beside.now) place (view value.now) }
+fn act_at(place: usize, value: &Value) -> Option<StepAct>
+    ensures { result ≡ spec.act_at place (view value.now) }
 {
-    let name = value.get("do").and_then(Value::as_str)?;
-    let packet = packet_in(place, value);
-    match name {
-        "delete" => {
-            only_keys(value, &["device", "do"], beside)?;
-            under("device", value).map(|device| StepAct::Call(Call::Delete { device }))
-        }
-        "allocate" => {
-            only_keys(value, &["as", "do", "size"], beside)?;
-            let size = under("size", value)?;
-            let label = value.get("as").and_then(Value::as_str)?;
-            is_label(label).then_some(StepAct::Allocate { size, label: place })
-        }
-        "hand" => hand_at(beside, value).map(StepAct::Hand),
-        "publish" => {
-            only_keys(value, &["do", "irp", "slot"], beside)?;
-            let slot = under("slot", value)?;
-            packet.map(|irp| StepAct::Publish { slot, irp })
-        }
-        "finish_taken" => finish_taken_at(beside, packet, value),
-        "withdraw" => slot_alone_at(beside, value).map(|slot| StepAct::Withdraw { slot }),
-        "request" => slot_alone_at(beside, value).map(|slot| StepAct::Request { slot }),
-        _ => match lock_act_named(name, beside, value) {
-            Some(on) => Some(StepAct::OnLock(on)),
-            None => call_named(name, beside, packet, value).map(StepAct::Call),
-        },
-    }
+    let act = Act::named(value.get("do").and_then(Value::as_str)?)?;
+    let told = told_at(act.keys(), beside(value), packet_in(place, value), value)?;
+    step_act_of(act, told.as_slice(), place, value)
 }
 
 /// The condition of a step, or none where it has no such key. None of both where it has another form.
@@ -86,7 +97,7 @@ fn hanging_at(value: &Value) -> Option<Option<Condition>>
 pub fn step_at(place: usize, value: &Value) -> Option<Step>
     ensures { result ≡ spec.step_at place (view value.now) }
 {
-    let act = act_at(beside(value), place, value)?;
+    let act = act_at(place, value)?;
     let seat = under("seat", value)?;
     let condition = hanging_at(value)?;
     Some(Step {

@@ -1,7 +1,7 @@
-//! The steps, and their keys in transcripts and scripts (docs/FORMATS.md). The rows stand in irp_names.
+//! The steps, and their keys in transcripts and scripts (docs/FORMATS.md). The rows stand in irp_forms.
 
 use crate::part::{Deed, Part};
-use irp_names::{Act, each_act};
+use irp_forms::{Act, each_act};
 
 /// A key of a step in a script, and what stands under it.
 macro_rules! step_key {

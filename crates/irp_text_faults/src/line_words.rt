@@ -9,7 +9,7 @@ use crate::search::{Bounds, Misfit, What};
 use crate::tokens::Kind;
 use crate::words::{Finding, Piece};
 use Piece::{Keys, Letter, Number, Quoted, Say};
-use irp_names::{Act, StepPlace};
+use irp_forms::{Act, StepPlace};
 use serde_json::Value;
 
 /// Puts what a part may be, behind its noun.

@@ -9,7 +9,8 @@ use crate::part::{Body, Key, Part, Shape};
 use crate::parts::{shape_for, shape_of};
 use crate::tokens::cut;
 use crate::words::Remedy;
-use irp_names::{Act, major_name, status_name, status_names};
+use irp_forms::Act;
+use irp_names::{major_name, status_name, status_names};
 use irp_types::Status;
 use irp_types::limits::LAST_MAJOR;
 

@@ -1,7 +1,7 @@
 //! The forms that parts of scripts and of transcripts' lines may have.
 
 pub use crate::parts::Part;
-use irp_names::Act;
+use irp_forms::Act;
 
 /// What a part may be.
 #[derive(Clone, Copy)]

@@ -8,7 +8,7 @@ use crate::nodes::Node;
 use crate::part::{Body, Deed, Key, Kind, Part, Shape};
 use crate::parts::{noun_of, shape_for};
 use crate::tokens::Kind as TokenKind;
-use irp_names::StepPlace;
+use irp_forms::StepPlace;
 use std::alloc::Global;
 
 /// In what a value stands.

@@ -1,42 +1,52 @@
 -- What a JSON value reads as: an entry's call. None where the value has another form.
-use Rattle.std.specs.Prelude.{ℕ, List, [], ◌∷◌, codes, false, Option, Some, None, if◌then◌else◌}
-use Rattle.std.proofs.Common.{bytes_eq}
+use Rattle.std.specs.Prelude.{ℕ, List, [], ◌∷◌, Bool, codes, false, Option, Some, None}
 use Rattle.serde_json.specs.Data.{Data}
 use Rattle.serde_json.specs.Find.{get, as_bool, as_str}
-use Rattle.irp_forms.specs.Parts.{◌>>=◌, or_null_at, has_keys, only_keys, u8_at, u64_at}
-use Rattle.irp_forms.specs.Values.{device_at, irp_at, lock_at, status_at}
-use Rattle.irp_forms.specs.Calls.{call_named}
+use Rattle.irp_forms.specs.Fields.{field}
+use Rattle.irp_forms.specs.Parts.{◌>>=◌, or_null_at}
+use Rattle.irp_forms.specs.Steps.{Key, act_named, information_key, irp_key, keys_of, status_key}
+use Rattle.irp_forms.specs.Told.{call_of, told_at}
+use Rattle.irp_forms.specs.Values.{irp_at, lock_at}
+use Rattle.irp_forms.specs.declared.key_parts.Part.TheVariants as part
+use Rattle.irp_forms.specs.declared.step_names.Act.{Act}
+use Rattle.irp_forms.specs.declared.step_names.Act.TheVariants as act
+use Rattle.irp_forms.specs.declared.told.Told.{Told}
+use Rattle.irp_forms.specs.declared.told.Told.TheVariants as told
 use Rattle.irp_types.specs.Calls.{Call}
-use Rattle.irp_types.specs.declared.call.Call.TheVariants as calls
+use Rattle.irp_types.specs.declared.call.Call.TheVariants as call
+use Rattle.irp_types.specs.declared.{names.IrpRef.IrpRef, names.LockNo.LockNo}
 use Rattle.irp_transcript_reader.specs.declared.entry_calls.EntryCall.{EntryCall}
 
--- a delete, with the entry's lock, or null, and whether that was known to be drained
-unfoldable pub delete_at : Data → Option EntryCall
-delete_at form = if has_keys (codes "device" ∷ codes "do" ∷ codes "drained" ∷ codes "lock" ∷ []) form then (do
-  device ← get (codes "device") form >>= device_at
-  drained ← get (codes "drained") form >>= as_bool
-  lock ← get (codes "lock") form >>= or_null_at lock_at
-  Some (record { call = calls.Delete device; lock = lock; drained = drained })) else None
+-- the keys of an act in an entry, but for `do` and for what only a delete has: those of a step, but for two acts
+abbrev pub entry_keys : Act → List Key
+entry_keys act.Allocate = (codes "size", part.Size) ∷ []
+entry_keys act.FinishTaken = irp_key ∷ (codes "token", part.Token) ∷ status_key ∷ information_key ∷ []
+entry_keys other = keys_of other
 
--- a call by its name, but for a delete: with no keys beside its own, and its packet is a reference
-abbrev pub other_call_named : List ℕ → Data → Option Call
-other_call_named name form =
-    if bytes_eq name (codes "allocate") then (do
-      its ← only_keys (codes "do" ∷ codes "size" ∷ []) form
-      size ← get (codes "size") form >>= u8_at
-      Some (calls.Allocate size)) else
-    (if bytes_eq name (codes "finish_taken") then (do
-      its ← only_keys (codes "do" ∷ codes "information" ∷ codes "irp" ∷ codes "status" ∷ codes "token" ∷ []) form
-      irp ← get (codes "irp") form >>= irp_at
-      token ← get (codes "token") form >>= u64_at
-      status ← get (codes "status") form >>= status_at
-      information ← get (codes "information") form >>= u64_at
-      Some (calls.FinishTaken irp token status information)) else
-    call_named name [] (get (codes "irp") form >>= irp_at) form)
+-- the keys beside these
+abbrev pub beside : Act → List (List ℕ)
+beside act.Delete = codes "do" ∷ codes "drained" ∷ codes "lock" ∷ []
+beside other = codes "do" ∷ []
 
--- an entry's call, by the name under `do`, with the entry's lock and whether that was known to be drained, which only a
--- delete tells
+-- the call that an act is, by what stands under its keys
+abbrev pub entry_call_of : Act → List (Told IrpRef) → Option Call
+entry_call_of act.FinishTaken (told.Packet irp ∷ told.Long token ∷ told.Status status ∷ told.Long information ∷ []) =
+    Some (call.FinishTaken irp token status information)
+entry_call_of other told = call_of other told
+
+-- the entry's lock, or null, and whether that was known to be drained, which only a delete tells
+abbrev pub lock_told : Act → Data → Option (Option LockNo × Bool)
+lock_told act.Delete form = do
+  lock ← field (codes "lock") (or_null_at lock_at) form
+  drained ← field (codes "drained") as_bool form
+  Some (lock, drained)
+lock_told other form = Some (None, false)
+
+-- an entry's call, by the name under `do`, with the entry's lock and whether that was known to be drained
 unfoldable pub entry_call_at : Data → Option EntryCall
-entry_call_at form = get (codes "do") form >>= as_str >>= λ name.
-    if bytes_eq name (codes "delete") then delete_at form else
-    (other_call_named name form >>= λ call. Some (record { call = call; lock = None; drained = false }))
+entry_call_at form = do
+  act ← get (codes "do") form >>= as_str >>= act_named
+  told ← told_at (entry_keys act) (beside act) (field (codes "irp") irp_at form) form
+  call ← entry_call_of act told
+  lock ← lock_told act form
+  Some (record { call = call; lock = lock.0; drained = lock.1 })

@@ -5,9 +5,13 @@ use Rattle.std.proofs.Common.{bytes_eq}
 use Rattle.serde_json.specs.Data.{Data, string}
 use Rattle.serde_json.specs.Find.{get, as_str}
 use Rattle.irp_forms.specs.Parts.{◌>>=◌, has_keys, u32_at, u64_at}
-use Rattle.irp_forms.specs.Calls.{Keys}
 use Rattle.irp_forms.specs.Fields.{field}
-use Rattle.irp_forms.specs.SeatActs.{hand_at, lock_act_named, slot_alone_at}
+use Rattle.irp_forms.specs.Steps.{Key, act_named, keys_of, slot_key}
+use Rattle.irp_forms.specs.Told.{hand_of, lock_act_of, told_at}
+use Rattle.irp_forms.specs.declared.step_names.Act.{Act as Step}
+use Rattle.irp_forms.specs.declared.step_names.Act.TheVariants as word
+use Rattle.irp_forms.specs.declared.told.Told.{Told}
+use Rattle.irp_forms.specs.declared.told.Told.TheVariants as told
 use Rattle.irp_types.specs.declared.seat_act.SlotAct.TheVariants.{Publish, Withdraw, Request}
 use Rattle.irp_transcript.specs.declared.{word_line.Act.Act, word_line.WordLine.WordLine, word_line.WordReply.WordReply}
 use Rattle.irp_transcript.specs.declared.word_line.Act.TheVariants as acts
@@ -49,28 +53,36 @@ unfoldable pub word_reply_at : Data → Option WordReply
 word_reply_at (string name) = word_reply_named name
 word_reply_at form = valued_reply_at form
 
--- the keys that stand beside those of an act
-abbrev pub beside : Keys
-beside = codes "reply" ∷ codes "seat" ∷ codes "step" ∷ []
+-- the keys of a step in a word line, but for those that every word line has: those in a script, but for two steps
+abbrev pub line_keys : Step → List Key
+line_keys word.Publish = slot_key ∷ []
+line_keys word.FinishTaken = slot_key ∷ []
+line_keys other = keys_of other
 
--- what a step did, by its name
-unfoldable pub act_named : List ℕ → Data → Option Act
-act_named name form =
-    if bytes_eq name (codes "hand") then option_map acts.Hand (hand_at beside form) else
-    (if bytes_eq name (codes "publish") then
-    option_map (λ slot. acts.OnSlot (Publish slot)) (slot_alone_at beside form) else
-    (if bytes_eq name (codes "withdraw") then
-    option_map (λ slot. acts.OnSlot (Withdraw slot)) (slot_alone_at beside form) else
-    (if bytes_eq name (codes "request") then
-    option_map (λ slot. acts.OnSlot (Request slot)) (slot_alone_at beside form) else
-    (if bytes_eq name (codes "finish_taken") then option_map acts.FinishTaken (slot_alone_at beside form) else
-    option_map acts.OnLock (lock_act_named name beside form)))))
+-- the keys that every word line has
+abbrev pub beside : List (List ℕ)
+beside = codes "do" ∷ codes "reply" ∷ codes "seat" ∷ codes "step" ∷ []
 
--- a word line: what the step did, by the name under `do`, what it was answered, its seat and its place
+-- what a step did, by what stands under its keys
+unfoldable pub act_of : Step → List (Told (Unit {0})) → Option Act
+act_of word.Hand told = option_map acts.Hand (hand_of told)
+act_of word.Publish (told.Number slot ∷ []) = Some (acts.OnSlot (Publish slot))
+act_of word.Withdraw (told.Number slot ∷ []) = Some (acts.OnSlot (Withdraw slot))
+act_of word.Request (told.Number slot ∷ []) = Some (acts.OnSlot (Request slot))
+act_of word.FinishTaken (told.Number slot ∷ []) = Some (acts.FinishTaken slot)
+act_of other told = option_map acts.OnLock (lock_act_of other told)
+
+-- what a step did, by the name under `do`
+unfoldable pub act_at : Data → Option Act
+act_at form = do
+  step ← get (codes "do") form >>= as_str >>= act_named
+  told ← told_at (line_keys step) beside None form
+  act_of step told
+
+-- a word line: what the step did, what it was answered, its seat and its place
 unfoldable pub word_line_at : Data → Option WordLine
 word_line_at form = do
-  name ← get (codes "do") form >>= as_str
-  act ← act_named name form
+  act ← act_at form
   reply ← get (codes "reply") form >>= word_reply_at
   seat ← get (codes "seat") form >>= u32_at
   place ← get (codes "step") form >>= u32_at

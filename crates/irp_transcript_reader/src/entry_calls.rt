@@ -1,11 +1,12 @@
 //! Entries' calls.
 
-ghost use Rattle.std.specs.Prelude.{◌≡◌};
+ghost use Rattle.std.specs.Prelude.{◌≡◌, ◌≤◌, length};
 ghost use Rattle.serde_json.specs.View.{view};
+ghost use Rattle.irp_forms.specs.Steps.{keys_named};
 ghost use Rattle.irp_transcript_reader.specs.Calls as spec;
 
-use irp_forms::{call_named, only_keys, under};
-use irp_types::{Call, LockNo};
+use irp_forms::{Act, Part, StepKey, Told, call_of, told_at, under};
+use irp_types::{Call, IrpRef, LockNo};
 use serde_json::Value;
 
 /// An entry's call, with the lock of the entry and whether that was known to be drained, which only a delete tells.
@@ -16,47 +17,69 @@ pub struct EntryCall {
     pub drained: bool,
 }
 
-/// A delete, with the entry's lock, or null, and whether that was known to be drained.
-#[tactic(auto, unfolding(crate::specs::Calls::delete_at))]
-fn delete_at(value: &Value) -> Option<EntryCall>
-    ensures { result ≡ spec.delete_at (view value.now) }
+/// The keys of an act in an entry, but for `do` and for what only a delete has: those of a step, but for two acts.
+fn entry_keys(act: Act) -> &'static [StepKey]
+    ensures keys { keys_named result.now ≡ spec.entry_keys act }
+    ensures few { length result.now ≤ 4 }
 {
-    only_keys(value, &["device", "do", "drained", "lock"], &[])?;
-    let device = under("device", value)?;
-    Some(EntryCall {
-        call: Call::Delete { device },
-        drained: under("drained", value)?,
-        lock: under("lock", value)?,
-    })
+    match act {
+        Act::Allocate => &[("size", Part::Size)],
+        Act::FinishTaken => &[
+            ("irp", Part::Packet),
+            ("token", Part::Token),
+            ("status", Part::Status),
+            ("information", Part::Information),
+        ],
+        _ => act.keys(),
+    }
 }
 
-/// An entry's call, by the name under `do`.
+/// The call that an act is, by what stands under its keys in an entry.
+fn entry_call_of(act: Act, told: &[Told<IrpRef>]) -> Option<Call>
+    ensures { result ≡ spec.entry_call_of act told.now }
+{
+    match (act, told) {
+        (
+            Act::FinishTaken,
+            &[
+                Told::Packet(irp),
+                Told::Long(token),
+                Told::Status(status),
+                Told::Long(information),
+            ],
+        ) => Some(Call::FinishTaken {
+            irp,
+            token,
+            status,
+            information,
+        }),
+        _ => call_of(act, told),
+    }
+}
+
+/// An entry's call, by the name under `do`: a delete with the entry's lock, or null, and whether that was known to be
+/// drained.
 #[tactic(auto, unfolding(crate::specs::Calls::entry_call_at))]
 pub fn entry_call_at(value: &Value) -> Option<EntryCall>
     ensures { result ≡ spec.entry_call_at (view value.now) }
 {
-    let name = value.get("do").and_then(Value::as_str)?;
-    let call = match name {
-        "delete" => return delete_at(value),
-        "allocate" => {
-            only_keys(value, &["do", "size"], &[])?;
-            let size = under("size", value)?;
-            Call::Allocate { size }
-        }
-        "finish_taken" => {
-            only_keys(value, &["do", "information", "irp", "status", "token"], &[])?;
-            Call::FinishTaken {
-                irp: under("irp", value)?,
-                token: under("token", value)?,
-                status: under("status", value)?,
-                information: under("information", value)?,
-            }
-        }
-        _ => call_named(name, &[], under("irp", value), value)?,
+    let act = Act::named(value.get("do").and_then(Value::as_str)?)?;
+    let is_delete = act == Act::Delete;
+    let beside: &[&str] = if is_delete {
+        &["do", "drained", "lock"]
+    } else {
+        &["do"]
+    };
+    let told = told_at(entry_keys(act), beside, under("irp", value), value)?;
+    let call = entry_call_of(act, told.as_slice())?;
+    let (lock, drained) = if is_delete {
+        (under("lock", value)?, under("drained", value)?)
+    } else {
+        (None, false)
     };
     Some(EntryCall {
         call,
-        lock: None,
-        drained: false,
+        lock,
+        drained,
     })
 }

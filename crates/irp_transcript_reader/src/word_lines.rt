@@ -1,10 +1,11 @@
 //! Word lines.
 
-ghost use Rattle.std.specs.Prelude.{◌≡◌};
+ghost use Rattle.std.specs.Prelude.{◌≡◌, ◌≤◌, length};
 ghost use Rattle.serde_json.specs.View.{view};
+ghost use Rattle.irp_forms.specs.Steps.{keys_named};
 ghost use Rattle.irp_transcript_reader.specs.WordLines as spec;
 
-use irp_forms::{hand_at, has_keys, lock_act_named, slot_alone_at, under};
+use irp_forms::{Act as Step, Part, StepKey, Told, hand_of, has_keys, lock_act_of, told_at, under};
 use irp_transcript::{Act, WordLine, WordReply};
 use irp_types::SlotAct;
 use serde_json::Value;
@@ -65,31 +66,53 @@ fn word_reply_at(value: &Value) -> Option<WordReply>
     }
 }
 
-/// What a step did, by its name.
-#[tactic(auto, unfolding(crate::specs::WordLines::act_named))]
-fn act_named(name: &str, value: &Value) -> Option<Act>
-    ensures { result ≡ spec.act_named name.now (view value.now) }
+/// The keys of a step in a word line, but for those that every word line has: those in a script, but for two steps.
+fn line_keys(step: Step) -> &'static [StepKey]
+    ensures keys { keys_named result.now ≡ spec.line_keys step }
+    ensures few { length result.now ≤ 4 }
 {
-    let beside = &["reply", "seat", "step"];
-    let slot = slot_alone_at(beside, value);
-    match name {
-        "hand" => Some(Act::Hand(hand_at(beside, value)?)),
-        "publish" => Some(Act::OnSlot(SlotAct::Publish { slot: slot? })),
-        "withdraw" => Some(Act::OnSlot(SlotAct::Withdraw { slot: slot? })),
-        "request" => Some(Act::OnSlot(SlotAct::Request { slot: slot? })),
-        "finish_taken" => Some(Act::FinishTaken { slot: slot? }),
-        _ => Some(Act::OnLock(lock_act_named(name, beside, value)?)),
+    match step {
+        Step::Publish | Step::FinishTaken => &[("slot", Part::Slot)],
+        _ => step.keys(),
     }
 }
 
-/// A word line: what the step did, by the name under `do`, what it was answered, its seat and its place.
+/// What a step did, by what stands under its keys in a word line.
+fn act_of(step: Step, told: &[Told<()>]) -> Option<Act>
+    ensures { result ≡ spec.act_of step told.now }
+{
+    match (step, told) {
+        (Step::Hand, _) => hand_of(told).map(Act::Hand),
+        (Step::Publish, &[Told::Number(slot)]) => Some(Act::OnSlot(SlotAct::Publish { slot })),
+        (Step::Withdraw, &[Told::Number(slot)]) => Some(Act::OnSlot(SlotAct::Withdraw { slot })),
+        (Step::Request, &[Told::Number(slot)]) => Some(Act::OnSlot(SlotAct::Request { slot })),
+        (Step::FinishTaken, &[Told::Number(slot)]) => Some(Act::FinishTaken { slot }),
+        _ => lock_act_of(step, told).map(Act::OnLock),
+    }
+}
+
+/// What a step did, by the name under `do`.
+#[tactic(auto, unfolding(crate::specs::WordLines::act_at))]
+fn act_at(value: &Value) -> Option<Act>
+    ensures { result ≡ spec.act_at (view value.now) }
+{
+    let step = Step::named(value.get("do").and_then(Value::as_str)?)?;
+    let told = told_at(
+        line_keys(step),
+        &["do", "reply", "seat", "step"],
+        None,
+        value,
+    )?;
+    act_of(step, told.as_slice())
+}
+
+/// A word line: what the step did, what it was answered, its seat and its place.
 #[tactic(auto, unfolding(crate::specs::WordLines::word_line_at))]
 pub fn word_line_at(value: &Value) -> Option<WordLine>
     ensures { result ≡ spec.word_line_at (view value.now) }
 {
-    let name = value.get("do").and_then(Value::as_str)?;
     Some(WordLine {
-        act: act_named(name, value)?,
+        act: act_at(value)?,
         reply: word_reply_at(value.get("reply")?)?,
         seat: under("seat", value)?,
         step: under("step", value)?,

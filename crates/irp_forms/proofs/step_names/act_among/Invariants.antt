@@ -1,6 +1,6 @@
 use Rattle.std.proofs.Common.{◌≡◌, drop, map}
-use Rattle.irp_names.specs.Steps.{under}
-use Rattle.irp_names.proofs.step_names.act_among.Given as goal
+use Rattle.irp_forms.specs.Steps.{under}
+use Rattle.irp_forms.proofs.step_names.act_among.Given as goal
 
 abbrev pub invariant-loop-form : goal.invariant-loop-form
 invariant-loop-form l =

@@ -1,7 +1,7 @@
 -- What stands at a place of a column is that part of the row there.
 use Rattle.std.proofs.Common.{[], sym}
 use Rattle.std.proofs.lemmas.List.{get_or-map}
-use Rattle.irp_names.proofs.step_names.row_at.Goals as goal
+use Rattle.irp_forms.proofs.step_names.row_at.Goals as goal
 
 pub returns-clause-word : goal.returns-clause-word
 returns-clause-word c = sym (get_or-map (λ row. row.1.now) c.args.forms.now c.args.at _ [] c.requires)

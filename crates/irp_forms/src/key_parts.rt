@@ -1,7 +1,7 @@
 //! What stands under the keys of a script's steps, and in its plans. Source: this project's own format (docs/FORMATS.md).
 
 ghost use Rattle.std.specs.Prelude.{◌≡◌};
-ghost use Rattle.irp_names.specs.Parts.{most};
+ghost use Rattle.irp_forms.specs.KeyParts.{most};
 
 /// What stands under a key of a step, or in a plan; and what else a script in words names.
 #[derive(Clone, Copy, PartialEq, Eq)]
@@ -22,6 +22,8 @@ pub enum Part {
     /// What a location's parameters are, or a minor function code.
     Word,
     Information,
+    /// What an entry names a packet by that was taken from a cancel slot.
+    Token,
     Party,
     Label,
     /// A packet, by a label or by its slot and its use number.
@@ -42,7 +44,7 @@ impl Part {
     {
         match self {
             Part::Size | Part::Major => 0xff,
-            Part::Word | Part::Information => 0xffff_ffff_ffff_ffff,
+            Part::Word | Part::Information | Part::Token => 0xffff_ffff_ffff_ffff,
             _ => 0xffff_ffff,
         }
     }

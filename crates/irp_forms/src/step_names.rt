@@ -1,11 +1,12 @@
 //! Steps by their words: the calls of the manager, and what is done with remove locks and cancel slots. Source: this
 //! project's own format (docs/FORMATS.md); for the names in Windows the WDK, by the title of each routine's page.
 
-ghost use Rattle.std.specs.Prelude.{◌≡◌, ◌<◌, ℕ, List, [], Some, get_or, length, map};
-ghost use Rattle.irp_names.specs.Calls.{act_of};
-ghost use Rattle.irp_names.specs.Steps as spec;
+ghost use Rattle.std.specs.Prelude.{◌≡◌, ◌<◌, ◌≤◌, [], Some, get_or, length, map, nat_le, true};
+ghost use Rattle.std.specs.List.{list_all};
+ghost use Rattle.irp_forms.specs.Steps.{act_of};
+ghost use Rattle.irp_forms.specs.Steps as spec;
 
-use crate::parts::Part;
+use crate::key_parts::Part;
 use irp_types::Call;
 
 /// What a step does, by its word.
@@ -210,7 +211,8 @@ fn forms() -> &'static [Form]
 #[tactic(auto, unfolding(crate::specs::Steps::step_places, crate::specs::Steps::step_keys))]
 fn keyed() -> &'static [Keyed]
     ensures places { map (λ row. row.0) result.now ≡ spec.step_places }
-    ensures keys { map (λ row. map (λ key. (key.0.now, key.1)) row.1.now) result.now ≡ spec.step_keys }
+    ensures keys { map (λ row. spec.keys_named row.1.now) result.now ≡ spec.step_keys }
+    ensures few { list_all (λ row. nat_le (length row.1.now) 4) result.now ≡ true }
     ensures count { length result.now ≡ 26 }
 {
     &KEYS
@@ -218,10 +220,11 @@ fn keyed() -> &'static [Keyed]
 
 /// The place and the keys in the row at a place of these.
 fn keyed_at(rows: &'static [Keyed], at: usize) -> Keyed
-    requires { at < length rows.now }
+    requires within { at < length rows.now }
+    requires few { list_all (λ row. nat_le (length row.1.now) 4) rows.now ≡ true }
     ensures place { result.0 ≡ get_or (map (λ row. row.0) rows.now) at StepPlace.Anywhere }
-    ensures keys { map {B = List ℕ × Part} (λ key. (key.0.now, key.1)) result.1.now
-        ≡ get_or (map (λ row. map {B = List ℕ × Part} (λ key. (key.0.now, key.1)) row.1.now) rows.now) at [] }
+    ensures keys { spec.keys_named result.1.now ≡ get_or (map (λ row. spec.keys_named row.1.now) rows.now) at [] }
+    ensures few { length result.1.now ≤ 4 }
 {
     rows[at]
 }
@@ -324,10 +327,12 @@ impl Act {
         keyed_at(keyed(), self as usize).0
     }
 
-    /// Its keys in a script, in the order in which they are written, with what stands under each.
+    /// Its keys in a script but for those that every step has, in the order in which they are written, with what stands
+    /// under each: at most four.
     #[tactic(auto, unfolding(crate::specs::Steps::keys_of))]
     pub fn keys(self) -> &'static [StepKey]
-        ensures { map (λ key. (key.0.now, key.1)) result.now ≡ spec.keys_of self }
+        ensures keys { spec.keys_named result.now ≡ spec.keys_of self }
+        ensures few { length result.now ≤ 4 }
     {
         keyed_at(keyed(), self as usize).1
     }
