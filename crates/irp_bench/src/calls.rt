@@ -16,7 +16,7 @@ use irp_types::{
     Answer, Call, DeviceId, DispatchId, DriverId, IrpRef, Known, KnowsNothing, LockNo, Party, Plan,
     Reply, RoutineId, Rule, Setting, Shown, Status,
 };
-use std::alloc::{AllocError, Global};
+use std::alloc::Global;
 use std::marker::Brand;
 use std::sync::ledger::Blank;
 use std::thread;
@@ -121,7 +121,7 @@ macro_rules! answered {
 }
 
 /// Makes a work's calls once. A send is of this packet, which must come back with success, after two questions a level.
-fn make<C: Caller>(caller: &mut C, work: Work, irp: Option<&IrpRef>) -> Timed<()>
+fn make<C: Caller>(caller: &mut C, work: Work, irp: Option<IrpRef>) -> Timed<()>
     ensures { IfOk result (λ _. MakesOne C.makes work caller.old caller.new) }
 {
     let (party, status, information) = (Party::Originator, Status::PENDING, 0);
@@ -137,7 +137,7 @@ fn make<C: Caller>(caller: &mut C, work: Work, irp: Option<&IrpRef>) -> Timed<()
             answered!(caller, Call::Free { irp }, Reply::Done => Ok(()))
         }
         Work::Sends(target, ..) => {
-            let irp = *irp.ok_or(NotTimed::Failed)?;
+            let irp = irp.ok_or(NotTimed::Failed)?;
             let (reply, questions) = caller.make(Call::CallDriver { party, irp, target })?;
             let wanted = 2 * (target.0 as usize + 1);
             match reply {
@@ -153,7 +153,7 @@ fn repeat<C: Caller>(caller: &mut C, work: Work, count: usize, packets: &[IrpRef
     ensures { IfOk result (λ _. Repeats (MakesOne C.makes work) count caller.old caller.new) }
 {
     for made in 0..count {
-        make(caller, work, packets.get(made))?;
+        make(caller, work, packets.get(made).copied())?;
     }
     Ok(())
 }
@@ -267,30 +267,32 @@ fn recorded<A: Ask + Send + Drop, L: Session + Send + Sync, R: Host>(
     Ok((taken, Some(transcript)))
 }
 
-/// A store of one driver, whose reads each device passes down with a routine of rule Watch, and the lowest finishes.
-fn new_store(alloc: Global) -> Result<Store, AllocError> {
-    let reads = [(READ, DispatchId(0))].to_vec(alloc)?;
-    let watch = Routine::new(Rule::Watch, Box::new(alloc, watches)?);
-    let known = Known {
-        watch: 1,
-        ..Known::NONE
-    };
-    let forward = Dispatch::new(known, Box::new(alloc, forwards)?);
-    let mut store = Store::new(alloc);
-    store.add(watch).map_err(|_| AllocError)?;
-    store.add_dispatch(forward).map_err(|_| AllocError)?;
-    store.add_driver(reads).map_err(|_| AllocError)?;
-    Ok(store)
-}
-
-/// Does the work in a session of so many seats; where there are none, by the manager alone.
-pub fn do_work<R: Host>(rt: &R, seats: Option<u32>, work: Work) -> Timed<Outcome> {
-    let store = new_store(rt.alloc())?;
+/// Does the work with this store in a session of so many seats; where there are none, by the manager alone.
+fn with_store<R: Host>(rt: &R, store: Store, seats: Option<u32>, work: Work) -> Timed<Outcome> {
     let Some(seats) = seats else {
         let manager = Manager::new(rt.alloc(), store, 1);
         return Ok((do_with(rt, &mut Alone { manager }, work)?, None));
     };
     recorded::<Store, Brand, R>(rt, Blank::new(u64::from(seats)), store, seats, work)
+}
+
+/// The same with one driver, whose reads each device passes down with a routine of rule Watch, and the lowest finishes.
+pub fn do_work<R: Host>(rt: &R, seats: Option<u32>, work: Work) -> Timed<Outcome> {
+    let alloc = rt.alloc();
+    let reads = [(READ, DispatchId(0))].to_vec(alloc)?;
+    let watches = Box::new(alloc, watches).map_err(|_| NotTimed::Memory)?;
+    let forwards = Box::new(alloc, forwards).map_err(|_| NotTimed::Memory)?;
+    let known = Known {
+        watch: 1,
+        ..Known::NONE
+    };
+    let watch = Routine::new(Rule::Watch, watches);
+    let forward = Dispatch::new(known, forwards);
+    let mut store = Store::new(alloc);
+    store.add(watch).map_err(|_| NotTimed::Memory)?;
+    store.add_dispatch(forward).map_err(|_| NotTimed::Memory)?;
+    store.add_driver(reads).map_err(|_| NotTimed::Memory)?;
+    with_store(rt, store, seats, work)
 }
 
 /// What is done in calls, for a number.

@@ -1,5 +1,5 @@
 use Rattle.irp_types.specs.declared.limit.Limit.TheVariants.{ThirtyTwo}
-use Rattle.irp_bench.proofs.calls.do_work.Given as goal
+use Rattle.irp_bench.proofs.calls.with_store.Given as goal
 
 abbrev pub ghosts-recorded-L-Ledger : goal.ghosts-recorded-L-Ledger
 ghosts-recorded-L-Ledger g a = record { name = a.blank.name; parts = a.blank.parts }
