@@ -75,12 +75,12 @@ ComesOf ReadValues sample (Count count) = Unit {0}
 ComesOf Blocks sample (Verdict verdict) = Unit {0}
 ComesOf task sample other = ⊥
 
--- all of the entries were read, or judged legal
-abbrev pub IsExpected : Sample → Made → Type 0
-IsExpected sample (Transcript made) = length made.entries ≡ sample.entries
-IsExpected sample (Verdict verdict) = verdict ≡ Legal sample.entries
-IsExpected sample made = Unit {0}
+-- all of so many entries were read, or judged legal
+abbrev pub IsExpected : ℕ → Made → Type 0
+IsExpected count (Transcript made) = length made.entries ≡ count
+IsExpected count (Verdict verdict) = verdict ≡ Legal count
+IsExpected count made = Unit {0}
 
 -- what had to come of a task has come of it
-abbrev pub HasCome : Task → Sample → Type 0
-HasCome task sample = (made : Made) × ComesOf task sample made × IsExpected sample made
+abbrev pub HasCome : Task → ℕ → Sample → Type 0
+HasCome task count sample = (made : Made) × ComesOf task sample made × IsExpected count made

@@ -1,11 +1,9 @@
 //! Loads of calls: works by the manager alone, and in sessions, where each call is recorded.
 
 ghost use Rattle.std.{specs.Prelude.{◌≡◌, Bool, List, true, IfOk}, proofs.Props.{props}};
-ghost use Rattle.irp_types.specs.declared.{asked.Asked.{Asked}, reply.Reply.{Reply}};
-ghost use Rattle.irp_types.specs.declared.limit.Limit.TheVariants.{ThirtyTwo};
-ghost use Rattle.irp_types.specs.declared.routine.Rule.TheVariants.{Watch};
-ghost use Rattle.irp_types.specs.{Calls.{Call}, Rules.{is_allowed, is_plan_allowed}};
-ghost use Rattle.irp_types.specs.{Standing.{StandingFacts}, State.{no_routines}};
+ghost use Rattle.irp_types.specs.declared.{asked.Asked.{Asked}, limit.Limit.TheVariants.{ThirtyTwo}};
+ghost use Rattle.irp_types.specs.declared.{reply.Reply.{Reply}, routine.Rule.TheVariants.{Watch}};
+ghost use Rattle.irp_types.specs.{Calls.{Call}, Rules.{is_allowed, is_plan_allowed}, Standing.{StandingFacts}, State.{no_routines}};
 ghost use Rattle.irp_manager.specs.{Keeps.{slabbed}, ManagerStates.{state_of, Stepped}};
 ghost use Rattle.irp_shared.specs.Answered.{AnswersSo};
 ghost use Rattle.irp_bench.specs.Bench.{Keeps, MakesOne, Repeats};
@@ -20,8 +18,6 @@ use irp_types::{
 };
 use std::alloc::Global;
 use std::marker::Brand;
-use std::rt::Clock;
-use std::sync::Wait;
 use std::sync::ledger::Blank;
 use std::thread;
 use std::time::{Duration, Instant};
@@ -51,8 +47,7 @@ pub trait Caller {
     /// What a call with its reply makes of the caller.
     ghost makes: { Self → Call → Reply → Self → Type 0 };
 
-    /// Makes a call. Answers the reply, and how many questions were asked in it: of dispatches, and of completion and
-    /// cancel routines.
+    /// Makes a call. Answers the reply, and how many questions it asked of dispatches, completion and cancel routines.
     fn make(&mut self, call: Call) -> Timed<(Reply, usize)>
         ensures { IfOk result (λ answered. makes self.old call answered.0 self.new) };
 }
@@ -85,7 +80,7 @@ struct Recorder<'a, R, A: Ask, L: Session> {
 }
 
 /// Each call is recorded, and the seat keeps its entry.
-impl<R: Wait, A: Ask, L: Session> Caller for Recorder<'_, R, A, L> {
+impl<R: Host, A: Ask, L: Session> Caller for Recorder<'_, R, A, L> {
     ghost makes = { λ old call reply new. Keeps old.seat call reply new.seat };
 
     fn make(&mut self, call: Call) -> Timed<(Reply, usize)> {
@@ -107,13 +102,11 @@ impl<R: Wait, A: Ask, L: Session> Caller for Recorder<'_, R, A, L> {
 /// What is timed, on what is there before. `MakesOne` lists the calls.
 #[derive(Clone, Copy)]
 pub enum Work {
-    /// So many times a packet is allocated with one location, a completion is refused, it is given back, and giving it
-    /// back again is refused.
+    /// So often a packet is allocated with one location, a completion is refused, it is given back, and then in vain.
     Rounds(u32),
     /// `UNUSED` times a packet is allocated with 16 locations, and given back, while so many are live, this one too.
     Unused(u32),
-    /// So many packets are sent, so often each, to this device, the highest of a stack. They have a location for each
-    /// device.
+    /// To this device, the highest of a stack, so many packets with a location for each device are sent, so often each.
     Sends(DeviceId, u32, u32),
 }
 
@@ -127,9 +120,8 @@ macro_rules! answered {
     };
 }
 
-/// Makes the calls of a work once, of sends with this packet. That must be there, and come back with success, after two
-/// questions at each level.
-fn make<C: Caller>(caller: &mut C, work: Work, irp: Option<&IrpRef>) -> Timed<()>
+/// Makes a work's calls once. A send is of this packet, which must come back with success, after two questions a level.
+fn make<C: Caller>(caller: &mut C, work: Work, irp: Option<IrpRef>) -> Timed<()>
     ensures { IfOk result (λ _. MakesOne C.makes work caller.old caller.new) }
 {
     let (party, status, information) = (Party::Originator, Status::PENDING, 0);
@@ -145,9 +137,7 @@ fn make<C: Caller>(caller: &mut C, work: Work, irp: Option<&IrpRef>) -> Timed<()
             answered!(caller, Call::Free { irp }, Reply::Done => Ok(()))
         }
         Work::Sends(target, ..) => {
-            let Some(&irp) = irp else {
-                return Err(NotTimed::Failed);
-            };
+            let irp = irp.ok_or(NotTimed::Failed)?;
             let (reply, questions) = caller.make(Call::CallDriver { party, irp, target })?;
             let wanted = 2 * (target.0 as usize + 1);
             match reply {
@@ -163,20 +153,18 @@ fn repeat<C: Caller>(caller: &mut C, work: Work, count: usize, packets: &[IrpRef
     ensures { IfOk result (λ _. Repeats (MakesOne C.makes work) count caller.old caller.new) }
 {
     for made in 0..count {
-        make(caller, work, packets.get(made))?;
+        make(caller, work, packets.get(made).copied())?;
     }
     Ok(())
 }
 
-/// Makes each of these packets ready to be sent: another use of it begins, its highest location is filled with a read,
-/// and the routine of rule Watch is set there.
+/// Makes these packets ready to be sent: a new use of each begins, its highest location gets a read and a routine.
 fn make_ready<C: Caller>(caller: &mut C, packets: &mut [IrpRef]) -> Timed<()> {
-    let (party, setting) = (Party::Originator, WATCH);
-    let (major, word, status) = (READ, 7, Status::SUCCESS);
+    let (party, status) = (Party::Originator, Status::SUCCESS);
     for packet in packets.iter_mut() {
         let irp = answered!(caller, Call::Reuse { irp: *packet, status }, Reply::Irp(irp) => irp);
-        answered!(caller, Call::SetNext { party, irp, major, word }, Reply::Done => ());
-        answered!(caller, Call::SetRoutine { party, irp, setting }, Reply::Done => ());
+        answered!(caller, Call::SetNext { party, irp, major: READ, word: 7 }, Reply::Done => ());
+        answered!(caller, Call::SetRoutine { party, irp, setting: WATCH }, Reply::Done => ());
         *packet = irp;
     }
     Ok(())
@@ -201,11 +189,7 @@ fn set_up<C: Caller>(caller: &mut C, alloc: Global, devices: u32, more: u32) -> 
 
 /// Does a work with this caller. Answers how long the timed calls took, without what came before: the devices and the
 /// packets, which are made ready to be sent each time.
-fn do_with<C: Caller, R: Clock + AllocGlobal>(
-    rt: &R,
-    caller: &mut C,
-    work: Work,
-) -> Timed<Duration> {
+fn do_with<C: Caller, R: Host>(rt: &R, caller: &mut C, work: Work) -> Timed<Duration> {
     let (devices, packets, count, batches) = match work {
         Work::Rounds(count) => (0, 0, count, 1),
         Work::Unused(live) => (0, live.saturating_sub(1), UNUSED, 1),
@@ -222,8 +206,7 @@ fn do_with<C: Caller, R: Clock + AllocGlobal>(
     Ok(taken)
 }
 
-/// What the dispatch plans: it passes the packet down with the completion routine where a device stands below, and else
-/// finishes it with success.
+/// What the dispatch plans: it passes the packet down with the routine if a device stands below, else it finishes it.
 fn forwards(shown: Shown) -> Plan
     ensures { is_plan_allowed (record no_routines { watch = 1 }) shown result ≡ true }
 {
@@ -264,8 +247,7 @@ fn recorded<A: Ask + Send + Drop, L: Session + Send + Sync, R: Host>(
     requires fixed { L.fixed ≡ record { locks = 1; tables = A.tables ask; limit = ThirtyTwo } }
     requires may { AnswersSo (A.may_plan ask) (A.may_answer ask) (A.may_cancel ask) L.may }
 {
-    let opened = open::<A, L>(rt.alloc(), blank, ask, 1, seats);
-    let (shared, places) = opened.map_err(|_| NotTimed::Memory)?;
+    let (shared, places) = open(rt.alloc(), blank, ask, 1, seats).map_err(|_| NotTimed::Memory)?;
     let each = &|seat: Seat<L>| -> Timed<(Seat<L>, Duration)> {
         let shared = &shared;
         let mut caller = Recorder { rt, shared, seat };
@@ -279,7 +261,7 @@ fn recorded<A: Ask + Send + Drop, L: Session + Send + Sync, R: Host>(
     for one in made {
         let (seat, own) = one?;
         taken = if seats == 1 { own } else { taken };
-        places.push(seat)?;
+        places.push(seat).map_err(|_| NotTimed::Memory)?;
     }
     let transcript = shared.close(places).map_err(|_| NotTimed::Failed)?;
     Ok((taken, Some(transcript)))
@@ -291,21 +273,21 @@ fn with_store<R: Host>(rt: &R, store: Store, seats: Option<u32>, work: Work) -> 
         let manager = Manager::new(rt.alloc(), store, 1);
         return Ok((do_with(rt, &mut Alone { manager }, work)?, None));
     };
-    let blank = Blank::new(u64::from(seats));
-    recorded::<Store, Brand, R>(rt, blank, store, seats, work)
+    recorded::<Store, Brand, R>(rt, Blank::new(u64::from(seats)), store, seats, work)
 }
 
-/// Does the work in a session of so many seats; where there are none, by the manager alone. There is one driver, whose
-/// reads each device passes down with a completion routine of rule Watch, and the lowest finishes.
+/// The same with one driver, whose reads each device passes down with a routine of rule Watch, and the lowest finishes.
 pub fn do_work<R: Host>(rt: &R, seats: Option<u32>, work: Work) -> Timed<Outcome> {
     let alloc = rt.alloc();
     let reads = [(READ, DispatchId(0))].to_vec(alloc)?;
-    let watch = Routine::new(Rule::Watch, Box::new(alloc, watches)?);
+    let watches = Box::new(alloc, watches).map_err(|_| NotTimed::Memory)?;
+    let forwards = Box::new(alloc, forwards).map_err(|_| NotTimed::Memory)?;
     let known = Known {
         watch: 1,
         ..Known::NONE
     };
-    let forward = Dispatch::new(known, Box::new(alloc, forwards)?);
+    let watch = Routine::new(Rule::Watch, watches);
+    let forward = Dispatch::new(known, forwards);
     let mut store = Store::new(alloc);
     store.add(watch).map_err(|_| NotTimed::Memory)?;
     store.add_dispatch(forward).map_err(|_| NotTimed::Memory)?;
@@ -341,9 +323,8 @@ pub fn time_calls<R: Host>(rt: &R, calls: Calls, number: u32, is_recorded: bool)
         Calls::Sends => (Work::Sends(top, packets, SENDS), 1, 1, packets * SENDS),
     };
     let mut taken = Duration::ZERO;
-    let seats = is_recorded.then_some(seats);
     for _ in 0..sessions {
-        taken = taken.saturating_add(do_work(rt, seats, work)?.0);
+        taken = taken.saturating_add(do_work(rt, is_recorded.then_some(seats), work)?.0);
     }
     Ok(Done::of(count, 0, taken))
 }

@@ -1,5 +1,4 @@
-//! The program: times what the calls of remove locks, of cancel slots and of the manager cost, the texts of
-//! transcripts, and their judging.
+//! The program: times calls of remove locks, cancel slots and the manager, the texts of transcripts, and their judging.
 #![tactic(auto)]
 
 mod calls;
@@ -30,18 +29,15 @@ enum Load {
     Text(Task),
 }
 
-/// A word, the name of a load that it asks for, the load, what is timed beside it, with its name, and a number.
-type Row = (&'static str, &'static str, Load, &'static str, Load, u32);
-
 /// Rows: a word, the name of a load, the load, and what is timed beside it; then the numbers, each of a row of its own.
 macro_rules! rows {
-    ($($word:literal: $name:literal $load:expr; $beside_name:literal $beside:expr; [$($number:expr),*];)*) => {
-        [$($(($word, $name, $load, $beside_name, $beside, $number),)*)*]
+    ($($word:literal: $name:literal $load:expr; $beside:literal $other:expr; [$($number:expr),*];)*) => {
+        [$($(($word, $name, $load, $beside, $other, $number),)*)*]
     };
 }
 
 /// All that the program times, in this order.
-static TABLE: [Row; 27] = rows! {
+static TABLE: [(&str, &str, Load, &str, Load, u32); 27] = rows! {
     "locks": "acquire and release, threads" Load::Lock;
         "fetch-add and fetch-sub" Load::Word; [1, 4];
     "slots": "publish and withdraw, slots" Load::Slots(Pair::Withdrawn);
@@ -66,58 +62,47 @@ static TABLE: [Row; 27] = rows! {
         "read_transcript" Load::Text(Task::Read); [1_000_000];
 };
 
-/// Runs a load once, with a sample where it is of texts.
-fn run_once<R: Host>(rt: &R, load: Load, number: u32, sample: Option<&Sample>) -> Timed<Done> {
-    match (load, sample) {
-        (Load::Lock, _) => time_threads(rt, false, number),
-        (Load::Word, _) => time_threads(rt, true, number),
-        (Load::Slots(pair), _) => time_slots(rt, pair, number),
-        (Load::Alone(calls), _) => time_calls(rt, calls, number, false),
-        (Load::Recorded(calls), _) => time_calls(rt, calls, number, true),
-        (Load::Text(task), Some(sample)) => perform(rt, task, sample),
-        (Load::Text(_), None) => Err(NotTimed::Failed),
-    }
-}
-
-/// The least times of two loads, which take turns.
-fn least<R: Host>(rt: &R, load: Load, beside: Load, number: u32) -> Timed<(Done, Done)> {
+/// The least times of two loads, which take turns, on one sample where they are of texts.
+fn least<R: Host>(rt: &R, load: Load, other: Load, number: u32) -> Timed<(Done, Done)> {
     let sample = match load {
         Load::Text(_) => Some(record_sample(rt, number)?),
         _ => None,
     };
+    let time = |load: Load| match load {
+        Load::Lock => time_threads(rt, false, number),
+        Load::Word => time_threads(rt, true, number),
+        Load::Slots(pair) => time_slots(rt, pair, number),
+        Load::Alone(calls) => time_calls(rt, calls, number, false),
+        Load::Recorded(calls) => time_calls(rt, calls, number, true),
+        Load::Text(task) => perform(rt, task, number, sample.as_ref().ok_or(NotTimed::Failed)?),
+    };
     let never = Done::of(1, 0, Duration::MAX);
     let (mut first, mut second) = (never, never);
     for _ in 0..ROUNDS {
-        first = first.min(run_once(rt, load, number, sample.as_ref())?);
-        second = second.min(run_once(rt, beside, number, sample.as_ref())?);
+        first = first.min(time(load)?);
+        second = second.min(time(other)?);
     }
     Ok((first, second))
 }
 
-/// Times the rows of a word, and writes a line for each to standard error. `Usage` where no row has the word; else an
-/// error tells why not all could be timed.
+/// Times the rows of a word, and writes a line for each to standard error. `Usage` where no row has the word.
 fn time_rows<R: Host + Eprint>(rt: &R, asked: &str) -> Timed<()> {
     let mut outcome = Err(NotTimed::Usage);
-    for &(word, name, load, beside_name, beside, number) in TABLE.iter() {
-        if word == asked {
-            let (first, second) = least(rt, load, beside, number)?;
-            let ratio = first.nanoseconds() / second.nanoseconds();
-            eprintln!(rt;
-                "irp_bench: {name} {number}: {first}; {beside_name}: {second}; ratio {ratio:.2}"
-            )?;
-            outcome = Ok(());
-        }
+    for &(_, name, load, beside, other, number) in TABLE.iter().filter(|row| row.0 == asked) {
+        let (first, second) = least(rt, load, other, number)?;
+        let ratio = first.nanoseconds() / second.nanoseconds();
+        eprintln!(rt; "irp_bench: {name} {number}: {first}; {beside}: {second}; ratio {ratio:.2}")?;
+        outcome = Ok(());
     }
     outcome
 }
 
 /// Times what the word behind the program's name asks for, and nothing where there is none.
 fn run<R: Host + Env + Eprint>(rt: &R) -> Timed<()> {
-    let words = match words_of(rt) {
-        Ok(words) => words,
-        Err(Unasked::NoMemory) => return Err(NotTimed::Memory),
-        Err(Unasked::Usage) => return Err(NotTimed::Usage),
-    };
+    let words = words_of(rt).map_err(|fault| match fault {
+        Unasked::NoMemory => NotTimed::Memory,
+        Unasked::Usage => NotTimed::Usage,
+    })?;
     match words.as_slice() {
         [] | [_] => Ok(()),
         [_, word] => time_rows(rt, word.as_str()),

@@ -5,13 +5,12 @@ ghost use Rattle.irp_remove.specs.Pairing.{IsSeatOf};
 ghost use Rattle.irp_slots.specs.Pairing.{IsOwnerOf, IsCancellerOf};
 ghost use Rattle.irp_bench.specs.Bench.{TookBack, TookMore};
 
-use crate::timed::{Done, NotTimed, Timed};
+use crate::timed::{Done, Host, NotTimed, Timed};
 use irp_remove::{Locks, RemoveSeat};
 use irp_slots::{Canceller, Request, SlotOwner, Slots, Withdrawal};
 use irp_types::{IrpRef, LockNo};
-use std::rt::Clock;
 use std::sync::atomic::{AtomicU64, Ordering};
-use std::thread::{self, Threads};
+use std::thread;
 use std::time::{Duration, Instant};
 
 /// How many pairs a thread makes on the lock.
@@ -32,8 +31,7 @@ pub enum Pair {
     Bare,
 }
 
-/// Takes a reference to the lock and gives it back, again and again under another tag. It stops at the first that is
-/// refused.
+/// Takes a reference to the lock and gives it back, each time under another tag. It stops at the first that is refused.
 fn hold_all(locks: &Locks, seat: &mut RemoveSeat) -> Timed<()>
     requires fits { IsSeatOf locks.now seat.old }
     requires empty { seat.old.held ≡ [] }
@@ -58,13 +56,8 @@ fn count_all(word: &AtomicU64) {
 
 /// Times pairs in so many threads, each with a seat of its own, all on one lock, or on one word where they are bare.
 /// Where the system starts no thread, they run one after another.
-pub fn time_threads<R: Threads + Sync + Clock + AllocGlobal>(
-    rt: &R,
-    is_bare: bool,
-    threads: u32,
-) -> Timed<Done> {
-    let opened = irp_remove::open(rt.alloc(), 1, threads);
-    let (locks, seats) = opened.map_err(|_| NotTimed::Memory)?;
+pub fn time_threads<R: Host>(rt: &R, is_bare: bool, threads: u32) -> Timed<Done> {
+    let (locks, seats) = irp_remove::open(rt.alloc(), 1, threads).map_err(|_| NotTimed::Memory)?;
     let (shared, word) = (&locks, &AtomicU64::new(0));
     let each = &|mut seat: RemoveSeat| -> Timed<()>
         requires { IsSeatOf shared.now seat × (seat.held ≡ []) }
@@ -122,20 +115,18 @@ fn swap_all(word: &AtomicU64, count: usize) {
     }
 }
 
-/// Times pairs of calls on slots, of which so many are opened at once, or as many bare steps. To open them is not in
-/// the time.
-pub fn time_slots<R: Clock + AllocGlobal>(rt: &R, pair: Pair, slots: u32) -> Timed<Done> {
+/// Times pairs of calls on slots, so many opened at once, or as many bare steps. To open them is not in the time.
+pub fn time_slots<R: Host>(rt: &R, pair: Pair, slots: u32) -> Timed<Done> {
     let mut taken = Duration::ZERO;
     for _ in 0..TABLES {
         let opened = irp_slots::open(rt.alloc(), slots, 1);
         let (opened, mut owners, mut cancellers) = opened.map_err(|_| NotTimed::Memory)?;
         let mut canceller = cancellers.pop().ok_or(NotTimed::Failed)?;
-        let word = AtomicU64::new(0);
         let start = Instant::now(rt)?;
         match pair {
             Pair::Withdrawn => withdraw_all(&opened, owners.as_mut_slice())?,
             Pair::Requested => request_all(&opened, owners.as_mut_slice(), &mut canceller)?,
-            Pair::Bare => swap_all(&word, owners.len()),
+            Pair::Bare => swap_all(&AtomicU64::new(0), owners.len()),
         }
         taken = taken.saturating_add(start.elapsed(rt)?);
     }

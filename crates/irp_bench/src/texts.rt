@@ -1,6 +1,6 @@
 //! Transcripts of sessions: their texts, written and read, also by `serde_json` alone, and their judging.
 
-ghost use Rattle.std.specs.Prelude.{◌≡◌, Some, IfOk};
+ghost use Rattle.std.specs.Prelude.{◌≡◌, IfOk};
 ghost use Rattle.irp_bench.specs.Bench.{ComesOf, HasCome};
 ghost use Rattle.irp_transcript_writer.specs.Lines.{lines, text_of};
 
@@ -9,12 +9,11 @@ use crate::timed::{Done, Host, NotTimed, Timed};
 use irp_fast_reader::{Line, Reader, read_transcript};
 use irp_judge::{Judge, Verdict, check};
 use irp_shared::Transcript;
-use irp_streams::{Failed, Out};
+use irp_streams::WriterOut;
 use irp_transcript_writer::write_transcript;
 use irp_types::DeviceId;
 use serde_json::Value;
 use std::alloc::{AllocError, Global};
-use std::rt::Clock;
 use std::time::Instant;
 
 /// How many lines' values are written by `serde_json` alone.
@@ -44,7 +43,6 @@ pub enum Task {
 /// A transcript, its text, the values of the text's first lines, and how many bytes these lines have.
 #[derive(Drop)]
 pub struct Sample {
-    entries: u32,
     transcript: Transcript,
     text: Vec<u8>,
     values: Vec<Value>,
@@ -60,46 +58,24 @@ enum Made {
     Count(u64),
 }
 
-/// A text in memory, and how often it could not grow.
-#[derive(Drop)]
-struct TextOut {
-    bytes: Vec<u8>,
-    failures: u64,
-}
-
-/// A put fails only where memory runs out.
-impl Out for TextOut {
-    ghost gone = { λ text. Some text.bytes.items };
-
-    ghost failures = { λ text. text.failures };
-
-    fn put(&mut self, piece: &[u8]) -> Result<usize, Failed> {
-        if self.bytes.extend_from_slice(piece).is_err() {
-            self.failures = self.failures.wrapping_add(1);
-            return Err(Failed);
-        }
-        Ok(piece.len())
-    }
-}
-
 /// The text of a transcript, with room for so many bytes from the beginning.
-fn text(alloc: Global, transcript: &Transcript, room: usize) -> Timed<Vec<u8>>
+fn text(alloc: Global, transcript: &Transcript, room: usize) -> Result<Vec<u8>, AllocError>
     ensures { IfOk result (λ text. text.items ≡ text_of (lines transcript.now)) }
 {
-    let (bytes, failures) = (Vec::with_capacity(alloc, room)?, 0);
-    let mut text = TextOut { bytes, failures };
-    match write_transcript(alloc, &mut text, transcript) {
-        Ok(()) => Ok(text.bytes),
-        Err(_) => Err(NotTimed::Memory),
-    }
+    let mut out = WriterOut::new(Vec::with_capacity(alloc, room)?);
+    write_transcript(alloc, &mut out, transcript).map_err(|_| AllocError)?;
+    Ok(out.into_writer())
 }
 
-/// The values of the text's first lines, and how many bytes these lines have.
-fn first_values(alloc: Global, text: &[u8]) -> Timed<(Vec<Value>, u64)> {
-    let mut values = Vec::new(alloc);
-    let mut bytes: u64 = 0;
-    for line in text.split_inclusive(|&byte| byte == b'\n').take(LINES) {
-        values.push(Value::from_slice(alloc, line).map_err(|_| NotTimed::Memory)?)?;
+/// Reads the values of at most so many first lines of the text, and keeps them, or drops each; and how many bytes these
+/// lines have. That a line isn't read is for want of memory.
+fn read_values(alloc: Global, text: &[u8], most: usize, keeps: bool) -> Timed<(Vec<Value>, u64)> {
+    let (mut values, mut bytes) = (Vec::new(alloc), 0u64);
+    for line in text.split_inclusive(|&byte| byte == b'\n').take(most) {
+        let value = Value::from_slice(alloc, line).map_err(|_| NotTimed::Memory)?;
+        if keeps {
+            values.push(value).map_err(|_| NotTimed::Memory)?;
+        }
         bytes = bytes.saturating_add(line.len() as u64);
     }
     Ok((values, bytes))
@@ -116,12 +92,11 @@ pub fn record_sample<R: Host>(rt: &R, entries: u32) -> Timed<Sample>
     let sent = do_work(rt, Some(1), Work::Sends(DeviceId(3), 1, times))?.1;
     let transcript = sent.ok_or(NotTimed::Failed)?;
     let text = text(rt.alloc(), &transcript, 0)?;
-    let (values, bytes) = first_values(rt.alloc(), text.as_slice())?;
+    let (values, bytes) = read_values(rt.alloc(), text.as_slice(), LINES, true)?;
     if transcript.entries().len() != entries as usize || values.len() != LINES {
         return Err(NotTimed::Failed);
     }
     Ok(Sample {
-        entries,
         transcript,
         text,
         values,
@@ -135,16 +110,6 @@ fn write_values(alloc: Global, values: &[Value]) -> Result<u64, AllocError> {
     for value in values {
         let line = value.to_vec(alloc)?;
         bytes = bytes.saturating_add(line.len() as u64).saturating_add(1);
-    }
-    Ok(bytes)
-}
-
-/// Reads the value of each line, drops it, and counts the lines' bytes. That a line isn't read is for want of memory.
-fn read_values(alloc: Global, text: &[u8]) -> Timed<u64> {
-    let mut bytes: u64 = 0;
-    for line in text.split_inclusive(|&byte| byte == b'\n') {
-        drop(Value::from_slice(alloc, line).map_err(|_| NotTimed::Memory)?);
-        bytes = bytes.saturating_add(line.len() as u64);
     }
     Ok(bytes)
 }
@@ -170,13 +135,11 @@ fn work(alloc: Global, task: Task, sample: &Sample) -> Timed<Made>
         Task::Write => Made::Text(text(alloc, transcript, given.len())?),
         Task::WriteValues => Made::Count(write_values(alloc, sample.values.as_slice())?),
         Task::Read => Made::Transcript(read_transcript(alloc, given)?),
-        Task::ReadValues => Made::Count(read_values(alloc, given)?),
+        Task::ReadValues => Made::Count(read_values(alloc, given, usize::MAX, false)?.1),
         Task::Judge => Made::Verdict(check(alloc, transcript)?),
         Task::Blocks => {
             transcript.is_one();
-            let Some(header) = transcript.header() else {
-                return Err(NotTimed::Failed);
-            };
+            let header = transcript.header().ok_or(NotTimed::Failed)?;
             let (mut reader, mut judge) = (Reader::new(alloc), Judge::new(alloc, header));
             for block in given.chunks(BLOCK) {
                 judge_block(alloc, &mut reader, &mut judge, block)?;
@@ -187,31 +150,27 @@ fn work(alloc: Global, task: Task, sample: &Sample) -> Timed<Made>
     })
 }
 
-/// Times a task. To look at what came of it, and to drop that, is not in the time. It has to be all of the entries
-/// or bytes, and each legal.
-pub fn perform<R: Clock + AllocGlobal>(rt: &R, task: Task, sample: &Sample) -> Timed<Done>
-    ensures { IfOk result (λ _. HasCome task sample.now) }
+/// Times a task, but not the look at what came of it. It has to be all of so many entries or of the bytes, and legal.
+pub fn perform<R: Host>(rt: &R, task: Task, count: u32, sample: &Sample) -> Timed<Done>
+    ensures { IfOk result (λ _. HasCome task count sample.now) }
 {
-    let alloc = rt.alloc();
     let start = Instant::now(rt)?;
-    let made = work(alloc, task, sample)?;
+    let made = work(rt.alloc(), task, sample)?;
     let taken = start.elapsed(rt);
-    let entries = u64::from(sample.entries);
+    let entries = u64::from(count);
     let (count, bytes) = match task {
         Task::WriteValues => (LINES as u32, sample.bytes),
-        _ => (sample.entries, sample.text.len() as u64),
+        _ => (count, sample.text.len() as u64),
     };
-    let is_expected = match &made {
-        Made::Text(text) => text.len() == sample.text.len(),
-        Made::Transcript(made) => made.entries().len() == sample.entries as usize,
-        Made::Verdict(verdict) => *verdict == (Verdict::Legal { entries }),
-        Made::Count(made) => *made == bytes,
+    let (is_expected, fault) = match &made {
+        Made::Text(text) => (text.len() == sample.text.len(), NotTimed::Failed),
+        Made::Transcript(made) => (made.entries().len() as u64 == entries, NotTimed::Failed),
+        Made::Verdict(verdict) => (*verdict == (Verdict::Legal { entries }), NotTimed::NotLegal),
+        Made::Count(made) => (*made == bytes, NotTimed::Failed),
     };
-    let is_verdict = matches!(made, Made::Verdict(_));
     drop(made);
     match is_expected {
         true => Ok(Done::of(count, bytes, taken?)),
-        false if is_verdict => Err(NotTimed::NotLegal),
-        false => Err(NotTimed::Failed),
+        false => Err(fault),
     }
 }

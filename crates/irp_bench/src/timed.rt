@@ -1,7 +1,7 @@
 //! What was done in which time, how it is written, and why the program ends before all is timed.
 
 use irp_transcript_reader::ReadFault;
-use std::alloc::{AllocError, AllocFailed};
+use std::alloc::AllocError;
 use std::num::nearest_u64_to_f64;
 use std::rt::Clock;
 use std::sync::Wait;
@@ -18,8 +18,7 @@ impl<R: Threads + Wait + Sync + Clock + AllocGlobal> Host for R {}
 /// What is timed, or else why it isn't.
 pub type Timed<T> = Result<T, NotTimed>;
 
-/// Why the program ends before all is timed: the exit status, and the line for standard error (this project's own
-/// command line, README.md).
+/// Why the program ends before all is timed: its exit status, and a line for standard error (this project's own words).
 #[derive(Clone, Copy, Debug, Error)]
 pub enum NotTimed {
     /// A transcript was not judged legal.
@@ -42,12 +41,6 @@ impl From<AllocError> for NotTimed {
     }
 }
 
-impl<T: Drop> From<AllocFailed<T>> for NotTimed {
-    fn from(_failed: AllocFailed<T>) -> NotTimed {
-        NotTimed::Memory
-    }
-}
-
 impl From<io::Error> for NotTimed {
     fn from(_error: io::Error) -> NotTimed {
         NotTimed::Failed
@@ -66,9 +59,8 @@ impl From<ReadFault> for NotTimed {
 /// What a load did, and how long it took. The least of several is the one that took least.
 #[derive(Clone, Copy, PartialEq, Eq, PartialOrd, Ord)]
 pub struct Done {
-    taken: Duration,
-    /// How often it did what it is named for. Where there are more threads, each did so many pairs, and all together so
-    /// many calls.
+    time: Duration,
+    /// How often it did what it is named for. Of several threads each did so many pairs, and all of them so many calls.
     count: u32,
     /// How many bytes the texts have that it wrote or read.
     bytes: u64,
@@ -76,17 +68,13 @@ pub struct Done {
 
 impl Done {
     /// So often, with texts of so many bytes, in this time.
-    pub fn of(count: u32, bytes: u64, taken: Duration) -> Done {
-        Done {
-            taken,
-            count,
-            bytes,
-        }
+    pub fn of(count: u32, bytes: u64, time: Duration) -> Done {
+        Done { time, count, bytes }
     }
 
     /// How many nanoseconds it took each time.
     pub fn nanoseconds(self) -> f64 {
-        self.taken.as_secs_f64() * 1e9 / f64::from(self.count)
+        self.time.as_secs_f64() * 1e9 / f64::from(self.count)
     }
 }
 
@@ -96,7 +84,7 @@ impl fmt::Display for Done {
         if self.bytes == 0 {
             return write!(f, "{each:.1} ns");
         }
-        let rate = nearest_u64_to_f64(self.bytes) / 1e6 / self.taken.as_secs_f64();
+        let rate = nearest_u64_to_f64(self.bytes) / 1e6 / self.time.as_secs_f64();
         write!(f, "{each:.1} ns, {rate:.1} MB a second")
     }
 }
