@@ -102,11 +102,11 @@ impl<R: Host, A: Ask, L: Session> Caller for Recorder<'_, R, A, L> {
 /// What is timed, on what is there before. `MakesOne` lists the calls.
 #[derive(Clone, Copy)]
 pub enum Work {
-    /// So often a packet is allocated with one location, a completion is refused, it is given back, and then in vain.
+    /// So many times a packet is allocated, its completion is refused, it is freed, and freeing it again is refused.
     Rounds(u32),
     /// `UNUSED` times a packet is allocated with 16 locations, and given back, while so many are live, this one too.
     Unused(u32),
-    /// To this device, the highest of a stack, so many packets with a location for each device are sent, so often each.
+    /// So many packets, with a location for each device, are sent so often each to this device, the top of a stack.
     Sends(DeviceId, u32, u32),
 }
 

@@ -169,8 +169,8 @@ pub fn perform<R: Host>(rt: &R, task: Task, count: u32, sample: &Sample) -> Time
         Made::Count(made) => (*made == bytes, NotTimed::Failed),
     };
     drop(made);
-    match is_expected {
-        true => Ok(Done::of(count, bytes, taken?)),
-        false => Err(fault),
+    if !is_expected {
+        return Err(fault);
     }
+    Ok(Done::of(count, bytes, taken?))
 }
