@@ -2,8 +2,8 @@
 
 ghost use Rattle.std.{specs.Prelude.{◌≡◌, Bool, List, true, IfOk}, proofs.Props.{props}};
 ghost use Rattle.irp_types.specs.declared.{asked.Asked.{Asked}, limit.Limit.TheVariants.{ThirtyTwo}};
-ghost use Rattle.irp_types.specs.declared.{reply.Reply.{Reply}, routine.Rule.TheVariants.{Watch}};
-ghost use Rattle.irp_types.specs.{Calls.{Call}, Rules.{is_allowed, is_plan_allowed}, Standing.{StandingFacts}, State.{no_routines}};
+ghost use Rattle.irp_types.specs.{State.{no_routines}, declared.{reply.Reply.{Reply}, routine.Rule.TheVariants.{Watch}}};
+ghost use Rattle.irp_types.specs.{Calls.{Call}, Rules.{is_allowed, is_plan_allowed}, Standing.{StandingFacts}};
 ghost use Rattle.irp_manager.specs.{Keeps.{slabbed}, ManagerStates.{state_of, Stepped}};
 ghost use Rattle.irp_shared.specs.Answered.{AnswersSo};
 ghost use Rattle.irp_bench.specs.Bench.{Keeps, MakesOne, Repeats};
@@ -276,7 +276,8 @@ fn with_store<R: Host>(rt: &R, store: Store, seats: Option<u32>, work: Work) -> 
     recorded::<Store, Brand, R>(rt, Blank::new(u64::from(seats)), store, seats, work)
 }
 
-/// The same with one driver, whose reads each device passes down with a routine of rule Watch, and the lowest finishes.
+/// Does the work in a session of so many seats, or by the manager alone where there are none. There is one driver: each
+/// device passes its reads down with a routine of rule Watch, and the lowest finishes them.
 pub fn do_work<R: Host>(rt: &R, seats: Option<u32>, work: Work) -> Timed<Outcome> {
     let alloc = rt.alloc();
     let reads = [(READ, DispatchId(0))].to_vec(alloc)?;

@@ -76,8 +76,7 @@ fn least<R: Host>(rt: &R, load: Load, other: Load, number: u32) -> Timed<(Done, 
         Load::Recorded(calls) => time_calls(rt, calls, number, true),
         Load::Text(task) => perform(rt, task, number, sample.as_ref().ok_or(NotTimed::Failed)?),
     };
-    let never = Done::of(1, 0, Duration::MAX);
-    let (mut first, mut second) = (never, never);
+    let (mut first, mut second) = (Done::of(1, 0, Duration::MAX), Done::of(1, 0, Duration::MAX));
     for _ in 0..ROUNDS {
         first = first.min(time(load)?);
         second = second.min(time(other)?);

@@ -67,8 +67,8 @@ fn text(alloc: Global, transcript: &Transcript, room: usize) -> Result<Vec<u8>, 
     Ok(out.into_writer())
 }
 
-/// Reads the values of at most so many first lines of the text, and keeps them, or drops each; and how many bytes these
-/// lines have. That a line isn't read is for want of memory.
+/// Reads the values of at most so many first lines. It answers them if it keeps them, and how many bytes these lines
+/// have. `Memory` where a line isn't read.
 fn read_values(alloc: Global, text: &[u8], most: usize, keeps: bool) -> Timed<(Vec<Value>, u64)> {
     let (mut values, mut bytes) = (Vec::new(alloc), 0u64);
     for line in text.split_inclusive(|&byte| byte == b'\n').take(most) {
@@ -150,18 +150,19 @@ fn work(alloc: Global, task: Task, sample: &Sample) -> Timed<Made>
     })
 }
 
-/// Times a task, but not the look at what came of it. It has to be all of so many entries or of the bytes, and legal.
-pub fn perform<R: Host>(rt: &R, task: Task, count: u32, sample: &Sample) -> Timed<Done>
-    ensures { IfOk result (λ _. HasCome task count sample.now) }
+/// Times a task without the check of what came of it. `Failed` unless that is all of so many entries, or of the bytes;
+/// `NotLegal` where it is another verdict than Legal.
+pub fn perform<R: Host>(rt: &R, task: Task, entries: u32, sample: &Sample) -> Timed<Done>
+    ensures { IfOk result (λ _. HasCome task entries sample.now) }
 {
     let start = Instant::now(rt)?;
     let made = work(rt.alloc(), task, sample)?;
     let taken = start.elapsed(rt);
-    let entries = u64::from(count);
     let (count, bytes) = match task {
         Task::WriteValues => (LINES as u32, sample.bytes),
-        _ => (count, sample.text.len() as u64),
+        _ => (entries, sample.text.len() as u64),
     };
+    let entries = u64::from(entries);
     let (is_expected, fault) = match &made {
         Made::Text(text) => (text.len() == sample.text.len(), NotTimed::Failed),
         Made::Transcript(made) => (made.entries().len() as u64 == entries, NotTimed::Failed),

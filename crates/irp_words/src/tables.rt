@@ -5,7 +5,9 @@ ghost use Rattle.irp_words.specs.Telling.{PrintsWhole};
 use crate::ending::Ending;
 use crate::telling::send_text;
 use irp_forms::{Act, HasName};
-use irp_names::{PlanKind, Sink, major_name, minor_name, mistake_name, refusal_meaning, rule_names, status_names};
+use irp_names::{
+    PlanKind, Sink, major_name, minor_name, mistake_name, refusal_meaning, rule_names, status_names,
+};
 use irp_streams::Out;
 use irp_types::Refusal;
 use irp_types::limits::LAST_MAJOR;
