@@ -281,8 +281,8 @@ fn with_store<R: Host>(rt: &R, store: Store, seats: Option<u32>, work: Work) -> 
 pub fn do_work<R: Host>(rt: &R, seats: Option<u32>, work: Work) -> Timed<Outcome> {
     let alloc = rt.alloc();
     let reads = [(READ, DispatchId(0))].to_vec(alloc)?;
-    let watches = Box::new(alloc, watches).map_err(|_| NotTimed::Memory)?;
-    let forwards = Box::new(alloc, forwards).map_err(|_| NotTimed::Memory)?;
+    let watches = Box::new(alloc, watches).ok().ok_or(NotTimed::Memory)?;
+    let forwards = Box::new(alloc, forwards).ok().ok_or(NotTimed::Memory)?;
     let known = Known {
         watch: 1,
         ..Known::NONE
