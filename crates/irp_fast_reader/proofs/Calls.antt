@@ -4,7 +4,7 @@ use Rattle.serde_json.specs.Data.{Data}
 use Rattle.serde_json.specs.Find.{get, as_str}
 use Rattle.irp_forms.specs.Fields.{field}
 use Rattle.irp_forms.specs.Parts.{◌>>=◌, count_members, each_key}
-use Rattle.irp_forms.specs.Steps.{act_named, act_of, act_rows, keys_of, step_keys}
+use Rattle.irp_forms.specs.Steps.{act_named, act_rows, keys_of, kind_of, step_keys}
 use Rattle.irp_forms.specs.Told.{call_of, part_at, part_under, told_at}
 use Rattle.irp_forms.specs.Values.{irp_at}
 use Rattle.irp_types.specs.Calls.{Call}
@@ -23,11 +23,11 @@ use Rattle.irp_fast_reader.specs.Parts.{LockFits, parts_of}
 -- call, and the lock that its entry tells
 abbrev Tells : Call → Option LockNo → Bool → Data → Type 0
 Tells made lock drained form =
-    ((get (codes "do") form >>= as_str >>= act_named) ≡ Some (act_of made))
-    × (((count_members form == (length (entry_keys (act_of made)) + length (beside (act_of made)))) && each_key (beside (act_of made)) form) ≡ true)
-    × (map (λ key. part_under key (field (codes "irp") irp_at form) form) (entry_keys (act_of made)) ≡ map read_again (parts_of made))
-    × (entry_call_of (act_of made) (parts_of made) ≡ Some made)
-    × (lock_told (act_of made) form ≡ Some (lock, drained))
+    ((get (codes "do") form >>= as_str >>= act_named) ≡ Some (kind_of made))
+    × (((count_members form == (length (entry_keys (kind_of made)) + length (beside (kind_of made)))) && each_key (beside (kind_of made)) form) ≡ true)
+    × (map (λ key. part_under key (field (codes "irp") irp_at form) form) (entry_keys (kind_of made)) ≡ map read_again (parts_of made))
+    × (entry_call_of (kind_of made) (parts_of made) ≡ Some made)
+    × (lock_told (kind_of made) form ≡ Some (lock, drained))
 
 tells : (made : Call) (lock : Option LockNo) (drained : Bool) → TellsLock made lock drained → Tells made lock drained (call_json made lock drained)
 unfolding act_named act_rows keys_of step_keys part_at call_of
@@ -60,7 +60,7 @@ call_back made lock drained h told =
     rw (
       given.0,
       given.1,
-      parts_back (entry_keys (act_of made)) (parts_of made) (field (codes "irp") irp_at form) form given.2 h,
+      parts_back (entry_keys (kind_of made)) (parts_of made) (field (codes "irp") irp_at form) form given.2 h,
       given.3,
       given.4,
     )

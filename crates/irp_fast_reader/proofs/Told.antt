@@ -2,7 +2,7 @@
 use Rattle.std.proofs.Common.{◌≡◌, List, [], ◌∷◌, Option, Some, map, option_map, refl, ap, ◌∙◌}
 use Rattle.serde_json.specs.Data.{Data}
 use Rattle.irp_forms.specs.Parts.{◌>>=◌, or_null_at, u8_at, u32_at, u64_at}
-use Rattle.irp_forms.specs.Steps.{Key}
+use Rattle.irp_forms.specs.Steps.{ActKey}
 use Rattle.irp_forms.specs.Told.{each_told, part_under}
 use Rattle.irp_forms.specs.Values.{cancel_at, device_at, driver_at, irp_at, lock_at, party_at, setting_at, status_at}
 use Rattle.irp_forms.specs.declared.told.Told.{Told}
@@ -48,7 +48,7 @@ abbrev all_of : {T : Type 0} → List (Option T) → Option (List T)
 all_of [] = Some []
 all_of (one ∷ others) = one >>= λ first. all_of others >>= λ more. Some (first ∷ more)
 
-each_as_all : (keys : List Key) (packet : Option IrpRef) (form : Data) → each_told keys packet form ≡ all_of (map (λ key. part_under key packet form) keys)
+each_as_all : (keys : List ActKey) (packet : Option IrpRef) (form : Data) → each_told keys packet form ≡ all_of (map (λ key. part_under key packet form) keys)
 unfolding each_told
 each_as_all [] packet form = refl
 each_as_all (key ∷ keys) packet form =
@@ -60,6 +60,6 @@ all_back (part ∷ []) h = rw (part_back part h) refl
 all_back (part ∷ next ∷ parts) h = rw (part_back part h.0, all_back (next ∷ parts) h.1) refl
 
 -- where these parts were written under the keys, these are read
-pub parts_back : (keys : List Key) (parts : List (Told IrpRef)) (packet : Option IrpRef) (form : Data)
+pub parts_back : (keys : List ActKey) (parts : List (Told IrpRef)) (packet : Option IrpRef) (form : Data)
     → map (λ key. part_under key packet form) keys ≡ map read_again parts → EachFits parts → each_told keys packet form ≡ Some parts
 parts_back keys parts packet form written h = each_as_all keys packet form ∙ ap all_of written ∙ all_back parts h

@@ -5,8 +5,8 @@ use Rattle.serde_json.specs.Find.{get, as_str}
 use Rattle.irp_forms.specs.Parts.{◌>>=◌, count_members, each_key, has_keys}
 use Rattle.irp_forms.specs.Steps.{act_named, act_rows, keys_of, step_keys}
 use Rattle.irp_forms.specs.Told.{hand_of, lock_act_of, part_at, part_under, told_at}
-use Rattle.irp_forms.specs.declared.step_names.Act.{Act as Step}
-use Rattle.irp_forms.specs.declared.step_names.Act.TheVariants as word
+use Rattle.irp_forms.specs.declared.step_names.ActKind.{ActKind}
+use Rattle.irp_forms.specs.declared.step_names.ActKind.TheVariants as kind
 use Rattle.irp_types.specs.declared.seat_act.LockAct.TheVariants as on_lock
 use Rattle.irp_types.specs.declared.seat_act.SlotAct.TheVariants as on_slot
 use Rattle.irp_transcript.specs.declared.{word_line.Act.Act, word_line.WordLine.WordLine, word_line.WordReply.WordReply}
@@ -61,15 +61,15 @@ word_reply_stands levels word_reply.NotStanding h = refl
 word_reply_stands levels word_reply.NoSlot h = refl
 word_reply_stands levels word_reply.NoToken h = refl
 
--- the act of a line, where its step has no other keys than these, under which stands what was written there, which makes
+-- the act of a line, where its kind has no other keys than these, under which stands what was written there, which makes
 -- the act
-act_back : (step : Step) (done : Act) (line : WordLine) → (get (codes "do") (line_of_act done line) >>= as_str >>= act_named) ≡ Some step
-    → ((count_members (line_of_act done line) == (length (line_keys step) + length beside)) && each_key beside (line_of_act done line)) ≡ true
-    → map (λ key. part_under key None (line_of_act done line)) (line_keys step) ≡ map read_again (act_parts done) → act_of step (act_parts done) ≡ Some done
+act_back : (kind : ActKind) (done : Act) (line : WordLine) → (get (codes "do") (line_of_act done line) >>= as_str >>= act_named) ≡ Some kind
+    → ((count_members (line_of_act done line) == (length (line_keys kind) + length beside)) && each_key beside (line_of_act done line)) ≡ true
+    → map (λ key. part_under key None (line_of_act done line)) (line_keys kind) ≡ map read_again (act_parts done) → act_of kind (act_parts done) ≡ Some done
     → ActFits done → act_at (line_of_act done line) ≡ Some done
 unfolding act_at told_at
-act_back step done line named keyed written made h =
-    rw (named, keyed, parts_back (line_keys step) (act_parts done) None (line_of_act done line) written h, made) refl
+act_back kind done line named keyed written made h =
+    rw (named, keyed, parts_back (line_keys kind) (act_parts done) None (line_of_act done line) written h, made) refl
 
 -- what the line of an act tells: no call, the act, and beside that its line's answer, seat and place
 abbrev Tells : Act → WordLine → Data → Type 0
@@ -80,15 +80,15 @@ Tells done line form =
 
 tells : (done : Act) (line : WordLine) → ActFits done → Tells done line (line_of_act done line)
 unfolding act_named act_rows keys_of step_keys part_at act_of lock_act_of hand_of
-tells (act.OnLock (on_lock.Acquire lock tag)) line h = (refl, act_back word.Acquire _ line refl refl refl refl h, refl, refl, refl)
-tells (act.OnLock (on_lock.Release lock tag)) line h = (refl, act_back word.Release _ line refl refl refl refl h, refl, refl, refl)
-tells (act.OnLock (on_lock.BeginRemove lock tag)) line h = (refl, act_back word.BeginRemove _ line refl refl refl refl h, refl, refl, refl)
-tells (act.OnLock (on_lock.Drained lock)) line h = (refl, act_back word.Drained _ line refl refl refl refl h, refl, refl, refl)
-tells (act.Hand hand) line h = (refl, act_back word.Hand _ line refl refl refl refl h, refl, refl, refl)
-tells (act.OnSlot (on_slot.Publish slot)) line h = (refl, act_back word.Publish _ line refl refl refl refl h, refl, refl, refl)
-tells (act.OnSlot (on_slot.Withdraw slot)) line h = (refl, act_back word.Withdraw _ line refl refl refl refl h, refl, refl, refl)
-tells (act.OnSlot (on_slot.Request slot)) line h = (refl, act_back word.Request _ line refl refl refl refl h, refl, refl, refl)
-tells (act.FinishTaken slot) line h = (refl, act_back word.FinishTaken _ line refl refl refl refl h, refl, refl, refl)
+tells (act.OnLock (on_lock.Acquire lock tag)) line h = (refl, act_back kind.Acquire _ line refl refl refl refl h, refl, refl, refl)
+tells (act.OnLock (on_lock.Release lock tag)) line h = (refl, act_back kind.Release _ line refl refl refl refl h, refl, refl, refl)
+tells (act.OnLock (on_lock.BeginRemove lock tag)) line h = (refl, act_back kind.BeginRemove _ line refl refl refl refl h, refl, refl, refl)
+tells (act.OnLock (on_lock.Drained lock)) line h = (refl, act_back kind.Drained _ line refl refl refl refl h, refl, refl, refl)
+tells (act.Hand hand) line h = (refl, act_back kind.Hand _ line refl refl refl refl h, refl, refl, refl)
+tells (act.OnSlot (on_slot.Publish slot)) line h = (refl, act_back kind.Publish _ line refl refl refl refl h, refl, refl, refl)
+tells (act.OnSlot (on_slot.Withdraw slot)) line h = (refl, act_back kind.Withdraw _ line refl refl refl refl h, refl, refl, refl)
+tells (act.OnSlot (on_slot.Request slot)) line h = (refl, act_back kind.Request _ line refl refl refl refl h, refl, refl, refl)
+tells (act.FinishTaken slot) line h = (refl, act_back kind.FinishTaken _ line refl refl refl refl h, refl, refl, refl)
 
 -- a word line
 pub word_back : (line : WordLine) → WordFits line → word_line_at (word_json line) ≡ Some line

@@ -17,15 +17,11 @@ use Rattle.irp_types.specs.declared.answer.Plan.TheVariants as plan
 use Rattle.irp_types.specs.declared.asked.Asked.TheVariants as asked
 use Rattle.irp_types.specs.Calls.{Call}
 use Rattle.irp_types.specs.declared.call.Call.TheVariants as call
-use Rattle.irp_types.specs.declared.call.Party.TheVariants as party
 use Rattle.irp_types.specs.declared.location.Owner.TheVariants as owner
 use Rattle.irp_types.specs.declared.reply.Reply.TheVariants as reply
-use Rattle.irp_types.specs.declared.seat_act.LockAct.TheVariants as on_lock
-use Rattle.irp_types.specs.declared.seat_act.SlotAct.TheVariants as on_slot
 use Rattle.irp_transcript.specs.Transcripts.{TranscriptValue}
 use Rattle.irp_transcript.specs.declared.{header.Header.Header, word_line.Act.Act, word_line.WordLine.WordLine}
 use Rattle.irp_transcript.specs.declared.word_line.WordReply.{WordReply}
-use Rattle.irp_transcript.specs.declared.word_line.Act.TheVariants as act
 use Rattle.irp_transcript.specs.declared.word_line.WordReply.TheVariants as word_reply
 use Rattle.irp_transcript_reader.specs.Forms.{has_entry, has_word}
 use Rattle.irp_transcript_reader.specs.Reading.{hands_within, most_bytes, most_entries}

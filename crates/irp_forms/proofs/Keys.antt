@@ -1,9 +1,7 @@
 -- The keys of an object, of which some stand beside others.
-use Rattle.std.proofs.Common.{◌≡◌, ℕ, ◌+◌, ◌==◌, ◌&&◌, ◌++◌, Bool, true, false, List, [], ◌∷◌, length, is_some, Option, Some, None, refl, sym, ap, ◌∙◌}
-use Rattle.std.specs.Bool.{then_some}
+use Rattle.std.proofs.Common.{◌≡◌, ℕ, ◌+◌, ◌==◌, ◌&&◌, ◌++◌, Bool, true, false, List, [], ◌∷◌, length, is_some, refl, sym, ap, ◌∙◌}
 use Rattle.std.specs.Cmp.{unsigned_Decides}
 use Rattle.std.proofs.lemmas.List.{length-append}
-use Rattle.std.proofs.lemmas.Option.{none-some}
 use Rattle.std.proofs.Math.Bool.{and_assoc}
 use Rattle.serde_json.specs.Data.{Data}
 use Rattle.serde_json.specs.Find.{get}
@@ -46,13 +44,3 @@ pub others_too : (keys beside : List (List ℕ)) (form : Data) → count_members
 others_too keys beside form many each =
     ap (λ (z : Bool × Bool). z.0 && (z.1 && each_key beside form)) {x = (true, true)} (λ i. (sym ((unsigned_Decides _ _).1 many) i, sym each i))
     ∙ sym (keys_beside keys beside form)
-
--- the keys are there where something is given
-pub are_there : {given : Option (Unit {0})} {found : Unit {0}} (b : Bool) → given ≡ then_some b tt → given ≡ Some found → b ≡ true
-are_there true is some = refl
-are_there {found = found} false is some = absurd (none-some found (sym is ∙ some))
-
--- the keys aren't there where nothing is given
-pub are_missing : {given : Option (Unit {0})} (b : Bool) → given ≡ then_some b tt → given ≡ None → b ≡ false
-are_missing true is none = absurd (none-some tt (sym none ∙ is))
-are_missing false is none = refl

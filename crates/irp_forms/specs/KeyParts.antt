@@ -1,4 +1,4 @@
--- What stands under the keys of a script's steps, and in its plans.
+-- What stands under the keys of acts, in scripts, entries and word lines, and in plans.
 use Rattle.std.specs.Prelude.{ℕ}
 use Rattle.irp_forms.specs.declared.key_parts.Part.{Part}
 use Rattle.irp_forms.specs.declared.key_parts.Part.TheVariants as part

@@ -1,11 +1,11 @@
--- Steps by their words.
+-- Acts by their words, with the names and the keys of each.
 use Rattle.std.specs.Prelude.{ℕ, codes, get_or, List, [], ◌∷◌, map, Option}
 use Rattle.std.specs.Borrow.{Bor}
 use Rattle.std.specs.List.{find, slice_get}
 use Rattle.std.specs.Option.{option_map}
 use Rattle.std.proofs.Common.{bytes_eq}
-use Rattle.irp_forms.specs.declared.step_names.Act.{Act}
-use Rattle.irp_forms.specs.declared.step_names.Act.TheVariants as act
+use Rattle.irp_forms.specs.declared.step_names.ActKind.{ActKind}
+use Rattle.irp_forms.specs.declared.step_names.ActKind.TheVariants as act
 use Rattle.irp_forms.specs.declared.step_names.StepPlace.{StepPlace}
 use Rattle.irp_forms.specs.declared.step_names.StepPlace.TheVariants as place
 use Rattle.irp_forms.specs.declared.step_names.TheConstants.{ACTS, KEYS}
@@ -15,14 +15,42 @@ use Rattle.irp_types.specs.Calls.{Call}
 use Rattle.irp_types.specs.declared.call.Call.TheVariants as call
 
 -- what the first row with this word has
-abbrev pub under : List ℕ → List (List ℕ × Act) → Option Act
+abbrev pub under : List ℕ → List (List ℕ × ActKind) → Option ActKind
 under word rows = option_map (λ row. row.1) (find (λ row. bytes_eq word row.0) rows)
 
--- each step under its word; then the routine of Windows that each stands for, its name in docs/RULES.md, and for a call
--- its checks and what it is answered
-unfoldable pub act_rows : List (List ℕ × Act)
-act_rows = map (λ form. (form.1.now, form.0)) ACTS
+-- each act under its word, which JSON has under `do`
+unfoldable pub act_rows : List (List ℕ × ActKind)
+act_rows =
+    (codes "create_device", act.CreateDevice)
+    ∷ (codes "attach", act.Attach)
+    ∷ (codes "detach", act.Detach)
+    ∷ (codes "delete", act.Delete)
+    ∷ (codes "allocate", act.Allocate)
+    ∷ (codes "free", act.Free)
+    ∷ (codes "cancel", act.Cancel)
+    ∷ (codes "look", act.Look)
+    ∷ (codes "reuse", act.Reuse)
+    ∷ (codes "set_next", act.SetNext)
+    ∷ (codes "copy_to_next", act.CopyToNext)
+    ∷ (codes "skip", act.Skip)
+    ∷ (codes "mark_pending", act.MarkPending)
+    ∷ (codes "set_routine", act.SetRoutine)
+    ∷ (codes "call_driver", act.CallDriver)
+    ∷ (codes "complete", act.Complete)
+    ∷ (codes "set_cancel_routine", act.SetCancelRoutine)
+    ∷ (codes "acquire", act.Acquire)
+    ∷ (codes "release", act.Release)
+    ∷ (codes "begin_remove", act.BeginRemove)
+    ∷ (codes "drained", act.Drained)
+    ∷ (codes "hand", act.Hand)
+    ∷ (codes "publish", act.Publish)
+    ∷ (codes "withdraw", act.Withdraw)
+    ∷ (codes "request", act.Request)
+    ∷ (codes "finish_taken", act.FinishTaken)
+    ∷ []
 
+-- as the table has them: the routine of Windows that each act stands for, its name in docs/RULES.md, and for a call its
+-- checks and what it is answered
 unfoldable pub windows_names : List (List ℕ)
 windows_names = map (λ form. form.2.now) ACTS
 
@@ -35,43 +63,43 @@ checks = map (λ form. form.4.now) ACTS
 unfoldable pub answers : List (List ℕ)
 answers = map (λ form. form.5.now) ACTS
 
--- where a script may have each step
+-- where a script may have each, as the table has it
 unfoldable pub step_places : List StepPlace
 step_places = map (λ row. row.0) KEYS
 
--- a key of a step, and what stands under it
-abbrev pub Key : Type 0
-Key = List ℕ × Part
+-- a key of an act, and what stands under it
+abbrev pub ActKey : Type 0
+ActKey = List ℕ × Part
 
 -- the keys of a list, whose names are text slices
-abbrev pub keys_named : List (Bor (List ℕ) × Part) → List Key
+abbrev pub keys_named : List (Bor (List ℕ) × Part) → List ActKey
 keys_named keys = map (λ key. (key.0.now, key.1)) keys
 
-abbrev pub irp_key : Key
+abbrev pub irp_key : ActKey
 irp_key = (codes "irp", part.Packet)
 
-abbrev pub lock_key : Key
+abbrev pub lock_key : ActKey
 lock_key = (codes "lock", part.Lock)
 
-abbrev pub slot_key : Key
+abbrev pub slot_key : ActKey
 slot_key = (codes "slot", part.Slot)
 
-abbrev pub status_key : Key
+abbrev pub status_key : ActKey
 status_key = (codes "status", part.Status)
 
-abbrev pub information_key : Key
+abbrev pub information_key : ActKey
 information_key = (codes "information", part.Information)
 
 -- the keys of a call that a party makes on a packet
-abbrev pub of_party : List Key → List Key
+abbrev pub of_party : List ActKey → List ActKey
 of_party others = (codes "by", part.Party) ∷ irp_key ∷ others
 
 -- the keys of an act on a remove lock that has a tag
-abbrev pub tagged : List Key → List Key
+abbrev pub tagged : List ActKey → List ActKey
 tagged others = lock_key ∷ (codes "tag", part.Tag) ∷ others
 
--- the keys of each step in a script but for those that every step has, in the order of the steps
-unfoldable pub step_keys : List (List Key)
+-- the keys of each act in a script but for those that every step has, in the order of the acts
+unfoldable pub step_keys : List (List ActKey)
 step_keys =
     ((codes "driver", part.Driver) ∷ lock_key ∷ [])
     ∷ ((codes "device", part.Device) ∷ (codes "to", part.Device) ∷ [])
@@ -101,8 +129,8 @@ step_keys =
     ∷ (irp_key ∷ slot_key ∷ status_key ∷ information_key ∷ [])
     ∷ []
 
--- the place of a step's row
-abbrev pub act_place : Act → ℕ
+-- the place of an act's row
+abbrev pub act_place : ActKind → ℕ
 act_place act.CreateDevice = 0
 act_place act.Attach = 1
 act_place act.Detach = 2
@@ -130,58 +158,58 @@ act_place act.Withdraw = 23
 act_place act.Request = 24
 act_place act.FinishTaken = 25
 
--- the word of a step, and its name in Windows
-unfoldable pub act_word : Act → List ℕ
+-- the word of an act, and its name in Windows
+unfoldable pub act_word : ActKind → List ℕ
 act_word one = get_or (map (λ row. row.0) act_rows) (act_place one) []
 
-unfoldable pub windows_name : Act → List ℕ
+unfoldable pub windows_name : ActKind → List ℕ
 windows_name one = get_or windows_names (act_place one) []
 
 -- its name in docs/RULES.md, its checks there, and what it is answered
-unfoldable pub rules_name : Act → List ℕ
+unfoldable pub rules_name : ActKind → List ℕ
 rules_name one = get_or rules_names (act_place one) []
 
-unfoldable pub checks_of : Act → List ℕ
+unfoldable pub checks_of : ActKind → List ℕ
 checks_of one = get_or checks (act_place one) []
 
-unfoldable pub answer_of : Act → List ℕ
+unfoldable pub answer_of : ActKind → List ℕ
 answer_of one = get_or answers (act_place one) []
 
 -- where a script may have it, and its keys there
-unfoldable pub place_of : Act → StepPlace
+unfoldable pub place_of : ActKind → StepPlace
 place_of one = get_or step_places (act_place one) place.Anywhere
 
-unfoldable pub keys_of : Act → List Key
+unfoldable pub keys_of : ActKind → List ActKey
 keys_of one = get_or step_keys (act_place one) []
 
--- what stands at a place of these rows, and the step at a place
-abbrev pub placed : ℕ → List (List ℕ × Act) → Option Act
+-- what stands at a place of these rows, and the act at a place
+abbrev pub placed : ℕ → List (List ℕ × ActKind) → Option ActKind
 placed place rows = option_map (λ row. row.1) (slice_get rows place)
 
-unfoldable pub act_at : ℕ → Option Act
+unfoldable pub act_at : ℕ → Option ActKind
 act_at place = placed place act_rows
 
--- the step that a word names
-unfoldable pub act_named : List ℕ → Option Act
+-- the act that a word names
+unfoldable pub act_named : List ℕ → Option ActKind
 act_named word = under word act_rows
 
--- the step that makes a call
-abbrev pub act_of : Call → Act
-act_of (call.CreateDevice driver lock) = act.CreateDevice
-act_of (call.Attach device to) = act.Attach
-act_of (call.Detach lower) = act.Detach
-act_of (call.Delete device) = act.Delete
-act_of (call.Allocate size) = act.Allocate
-act_of (call.Free irp) = act.Free
-act_of (call.Cancel irp) = act.Cancel
-act_of (call.Look irp) = act.Look
-act_of (call.Reuse irp status) = act.Reuse
-act_of (call.SetNext party irp major word) = act.SetNext
-act_of (call.CopyToNext party irp) = act.CopyToNext
-act_of (call.Skip party irp) = act.Skip
-act_of (call.MarkPending party irp) = act.MarkPending
-act_of (call.SetRoutine party irp setting) = act.SetRoutine
-act_of (call.CallDriver party irp target) = act.CallDriver
-act_of (call.Complete party irp status information) = act.Complete
-act_of (call.SetCancelRoutine party irp cancel) = act.SetCancelRoutine
-act_of (call.FinishTaken irp token status information) = act.FinishTaken
+-- the act that a call is
+abbrev pub kind_of : Call → ActKind
+kind_of (call.CreateDevice driver lock) = act.CreateDevice
+kind_of (call.Attach device to) = act.Attach
+kind_of (call.Detach lower) = act.Detach
+kind_of (call.Delete device) = act.Delete
+kind_of (call.Allocate size) = act.Allocate
+kind_of (call.Free irp) = act.Free
+kind_of (call.Cancel irp) = act.Cancel
+kind_of (call.Look irp) = act.Look
+kind_of (call.Reuse irp status) = act.Reuse
+kind_of (call.SetNext party irp major word) = act.SetNext
+kind_of (call.CopyToNext party irp) = act.CopyToNext
+kind_of (call.Skip party irp) = act.Skip
+kind_of (call.MarkPending party irp) = act.MarkPending
+kind_of (call.SetRoutine party irp setting) = act.SetRoutine
+kind_of (call.CallDriver party irp target) = act.CallDriver
+kind_of (call.Complete party irp status information) = act.Complete
+kind_of (call.SetCancelRoutine party irp cancel) = act.SetCancelRoutine
+kind_of (call.FinishTaken irp token status information) = act.FinishTaken

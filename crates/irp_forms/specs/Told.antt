@@ -4,12 +4,12 @@ use Rattle.std.specs.Prelude.{ℕ, List, [], ◌∷◌, ◌+◌, ◌==◌, ◌&&
 use Rattle.serde_json.specs.Data.{Data}
 use Rattle.serde_json.specs.Find.{get}
 use Rattle.irp_forms.specs.Parts.{◌>>=◌, count_members, each_key, or_null_at, u8_at, u32_at, u64_at}
-use Rattle.irp_forms.specs.Steps.{Key}
+use Rattle.irp_forms.specs.Steps.{ActKey}
 use Rattle.irp_forms.specs.Values.{cancel_at, device_at, driver_at, lock_at, party_at, setting_at, status_at}
 use Rattle.irp_forms.specs.declared.key_parts.Part.{Part}
 use Rattle.irp_forms.specs.declared.key_parts.Part.TheVariants as part
-use Rattle.irp_forms.specs.declared.step_names.Act.{Act}
-use Rattle.irp_forms.specs.declared.step_names.Act.TheVariants as act
+use Rattle.irp_forms.specs.declared.step_names.ActKind.{ActKind}
+use Rattle.irp_forms.specs.declared.step_names.ActKind.TheVariants as act
 use Rattle.irp_forms.specs.declared.told.Told.{Told}
 use Rattle.irp_forms.specs.declared.told.Told.TheVariants as told
 use Rattle.irp_types.specs.declared.call.Call.{Call as CallOf}
@@ -35,14 +35,15 @@ part_at part.Slot packet form = option_map told.Number (u32_at form)
 part_at part.Word packet form = option_map told.Long (u64_at form)
 part_at part.Information packet form = option_map told.Long (u64_at form)
 part_at part.Token packet form = option_map told.Long (u64_at form)
-part_at other packet form = Some told.Other
+part_at part.Label packet form = Some told.Other
+part_at other packet form = None
 
 -- what stands under a key
-abbrev pub part_under : {P : Type 0} → Key → Option P → Data → Option (Told P)
+abbrev pub part_under : {P : Type 0} → ActKey → Option P → Data → Option (Told P)
 part_under key packet form = get key.0 form >>= part_at key.1 packet
 
 -- what stands under each of these keys, in their order
-unfoldable pub each_told : {P : Type 0} → List Key → Option P → Data → Option (List (Told P))
+unfoldable pub each_told : {P : Type 0} → List ActKey → Option P → Data → Option (List (Told P))
 each_told [] packet form = Some []
 each_told (key ∷ keys) packet form = do
   first ← part_under key packet form
@@ -50,14 +51,14 @@ each_told (key ∷ keys) packet form = do
   Some (first ∷ others)
 
 -- the same of an object with exactly these keys and those beside them, which differ: as many members, and each key
-unfoldable pub told_at : {P : Type 0} → List Key → List (List ℕ) → Option P → Data → Option (List (Told P))
+unfoldable pub told_at : {P : Type 0} → List ActKey → List (List ℕ) → Option P → Data → Option (List (Told P))
 told_at keys beside packet form =
     if (count_members form == (length keys + length beside)) && each_key beside form then each_told keys packet form
     else None
 
 -- the call that an act is, by what stands under its keys; none for a finish of a taken packet, which entries and steps
 -- tell in different ways
-unfoldable pub call_of : {P T : Type 0} → Act → List (Told P) → Option (CallOf P T)
+unfoldable pub call_of : {P T : Type 0} → ActKind → List (Told P) → Option (CallOf P T)
 call_of act.CreateDevice (told.Driver driver ∷ told.Lock lock ∷ []) = Some (call.CreateDevice driver lock)
 call_of act.Attach (told.Device device ∷ told.Device to ∷ []) = Some (call.Attach device to)
 call_of act.Detach (told.Device lower ∷ []) = Some (call.Detach lower)
@@ -83,7 +84,7 @@ call_of act.SetCancelRoutine (told.Party party ∷ told.Packet irp ∷ told.Canc
 call_of other told = None
 
 -- the act on a remove lock that an act is, by what stands under its keys
-unfoldable pub lock_act_of : {P : Type 0} → Act → List (Told P) → Option LockAct
+unfoldable pub lock_act_of : {P : Type 0} → ActKind → List (Told P) → Option LockAct
 lock_act_of act.Acquire (told.Lock lock ∷ told.Number tag ∷ []) = Some (on_lock.Acquire lock tag)
 lock_act_of act.Release (told.Lock lock ∷ told.Number tag ∷ []) = Some (on_lock.Release lock tag)
 lock_act_of act.BeginRemove (told.Lock lock ∷ told.Number tag ∷ []) = Some (on_lock.BeginRemove lock tag)

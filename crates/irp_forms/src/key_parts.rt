@@ -1,9 +1,10 @@
-//! What stands under the keys of a script's steps, and in its plans. Source: this project's own format (docs/FORMATS.md).
+//! What stands under the keys of acts, in scripts, entries and word lines, and in plans. Source: this project's own
+//! format (docs/FORMATS.md).
 
 ghost use Rattle.std.specs.Prelude.{◌≡◌};
 ghost use Rattle.irp_forms.specs.KeyParts.{most};
 
-/// What stands under a key of a step, or in a plan; and what else a script in words names.
+/// What stands under a key of an act, or in a plan; and what else a script in words names.
 #[derive(Clone, Copy, PartialEq, Eq)]
 pub enum Part {
     Device,

@@ -1,4 +1,4 @@
-//! The small forms that scripts and transcripts are made of, read from JSON values.
+//! Acts: their words, keys and names. And the small forms of scripts and transcripts, read from JSON values.
 #![tactic(auto)]
 
 mod from_value;
@@ -18,7 +18,7 @@ pub use list::{FromJson, list_at};
 pub use names::{Flags, HasName, flags_named, named};
 pub use parts::{has_items, has_keys, of_items, only_keys};
 pub use questions::keep_named;
-pub use step_names::{Act, StepKey, StepPlace, act_of, acts_are_named_apart};
-pub use told::{AllTold, Told, call_of, hand_of, lock_act_of, told_at};
+pub use step_names::{ActKey, ActKind, StepPlace, acts_are_named_apart, kind_of};
+pub use told::{Told, call_of, hand_of, lock_act_of, told_at};
 pub use unread::{Unread, form_of};
 pub use values::completions_at;

@@ -1,17 +1,18 @@
-//! Steps by their words: the calls of the manager, and what is done with remove locks and cancel slots. Source: this
-//! project's own format (docs/FORMATS.md); for the names in Windows the WDK, by the title of each routine's page.
+//! Acts by their words: the calls of the manager, and what is done with remove locks and cancel slots. A step of a
+//! script does one, and an entry or a word line of a transcript tells one. Source: this project's own format
+//! (docs/FORMATS.md); for the names in Windows the WDK, by the title of each routine's page.
 
 ghost use Rattle.std.specs.Prelude.{◌≡◌, ◌<◌, ◌≤◌, [], Some, get_or, length, map, nat_le, true};
 ghost use Rattle.std.specs.List.{list_all};
-ghost use Rattle.irp_forms.specs.Steps.{act_of};
+ghost use Rattle.irp_forms.specs.Steps.{kind_of};
 ghost use Rattle.irp_forms.specs.Steps as spec;
 
 use crate::key_parts::Part;
 use irp_types::Call;
 
-/// What a step does, by its word.
+/// The kind of an act: what a step does, by its word.
 #[derive(Clone, Copy, PartialEq, Eq)]
-pub enum Act {
+pub enum ActKind {
     CreateDevice,
     Attach,
     Detach,
@@ -40,11 +41,11 @@ pub enum Act {
     FinishTaken,
 }
 
-/// Every step, in the order of the enum, a row each: which it is, its word, the routine of Windows that it stands for (else
-/// its own word), and its name in docs/RULES.md; then for a call its checks, in order and behind those of the party that
-/// it names, and what it is answered, both as that page has them; then where a script may have it, and its keys there, in
-/// the order in which they are written, with what stands under each; then its keys in a call's entry and in a word line,
-/// none where it has no such. A macro makes a table of them, here and in irp_text_faults.
+/// Every kind of act, in the order of the enum, a row each: which it is, its word, the routine of Windows that it
+/// stands for (else its own word), and its name in docs/RULES.md; then for a call its checks, in order and behind those
+/// of the party that it names, and what it is answered, both as that page has them; then where a script may have it, and
+/// its keys there, in the order in which they are written, with what stands under each; then its keys in a call's entry
+/// and in a word line, none where it has no such. A macro makes a table of them, here and in irp_text_faults.
 #[macro_export]
 macro_rules! each_act {
     ($table:ident) => {
@@ -144,15 +145,15 @@ macro_rules! each_act {
     };
 }
 
-/// The names of steps.
+/// The names of acts.
 macro_rules! of_forms {
     ($($act:ident $word:literal $windows:literal $rules:literal $checks:literal $answer:literal
         $place:ident [$($keys:tt)*] [$($call:tt)*] [$($line:tt)*];)*) => {
-        [$((Act::$act, $word, $windows, $rules, $checks, $answer)),*]
+        [$((ActKind::$act, $word, $windows, $rules, $checks, $answer)),*]
     };
 }
 
-/// The places and the keys of steps.
+/// The places and the keys of acts.
 macro_rules! of_keys {
     ($($act:ident $word:literal $windows:literal $rules:literal $checks:literal $answer:literal
         $place:ident [$($key:literal $part:ident)*] [$($call:tt)*] [$($line:tt)*];)*) => {
@@ -160,7 +161,7 @@ macro_rules! of_keys {
     };
 }
 
-/// Which scripts may have a step, and where.
+/// Which scripts may have an act, and where.
 #[derive(Clone, Copy, PartialEq, Eq)]
 pub enum StepPlace {
     /// Any of them, in `setup` too.
@@ -171,12 +172,12 @@ pub enum StepPlace {
     FormTwo,
 }
 
-/// A key of a step in a script, and what stands under it.
-pub type StepKey = (&'static str, Part);
+/// A key of an act, and what stands under it.
+pub type ActKey = (&'static str, Part);
 
-/// A step's row.
+/// An act's row.
 type Form = (
-    Act,
+    ActKind,
     &'static str,
     &'static str,
     &'static str,
@@ -184,13 +185,13 @@ type Form = (
     &'static str,
 );
 
-/// The names of every step.
+/// The names of every act.
 static ACTS: [Form; 26] = each_act!(of_forms);
 
-/// Where a script may have a step, and its keys there.
-type Keyed = (StepPlace, &'static [StepKey]);
+/// Where a script may have an act, and its keys there.
+type Keyed = (StepPlace, &'static [ActKey]);
 
-/// The place and the keys of every step.
+/// The place and the keys of every act.
 static KEYS: [Keyed; 26] = each_act!(of_keys);
 
 /// Every row. No other function names the table, since a check reads it whole at each that does.
@@ -223,14 +224,15 @@ fn keyed_at(rows: &'static [Keyed], at: usize) -> Keyed
     requires within { at < length rows.now }
     requires few { list_all (λ row. nat_le (length row.1.now) 4) rows.now ≡ true }
     ensures place { result.0 ≡ get_or (map (λ row. row.0) rows.now) at StepPlace.Anywhere }
-    ensures keys { spec.keys_named result.1.now ≡ get_or (map (λ row. spec.keys_named row.1.now) rows.now) at [] }
+    ensures keys { spec.keys_named result.1.now
+        ≡ get_or (map (λ row. spec.keys_named row.1.now) rows.now) at [] }
     ensures few { length result.1.now ≤ 4 }
 {
     rows[at]
 }
 
-/// The step of the first of these rows that has this word.
-fn act_among(forms: &[Form], word: &str) -> Option<Act>
+/// The act of the first of these rows that has this word.
+fn act_among(forms: &[Form], word: &str) -> Option<ActKind>
     ensures { result ≡ spec.under word.now (map (λ form. (form.1.now, form.0)) forms.now) }
 {
     for form in forms {
@@ -253,25 +255,25 @@ fn row_at(forms: &'static [Form], at: usize) -> Form
     forms[at]
 }
 
-/// The step at a place of these rows. None behind the last.
-fn act_at(forms: &[Form], place: usize) -> Option<Act>
+/// The act at a place of these rows. None behind the last.
+fn act_at(forms: &[Form], place: usize) -> Option<ActKind>
     ensures { result ≡ spec.placed place (map (λ form. (form.1.now, form.0)) forms.now) }
 {
     Some(forms.get(place)?.0)
 }
 
-impl Act {
-    /// The step that a word names. None where it names none.
+impl ActKind {
+    /// The act that a word names. None where it names none.
     #[tactic(auto, unfolding(crate::specs::Steps::act_named))]
-    pub fn named(word: &str) -> Option<Act>
+    pub fn named(word: &str) -> Option<ActKind>
         ensures { result ≡ spec.act_named word.now }
     {
         act_among(forms(), word)
     }
 
-    /// The step at a place, from 0, in the order of the enum. None behind the last.
+    /// The act at a place, from 0, in the order of the enum. None behind the last.
     #[tactic(auto, unfolding(crate::specs::Steps::act_at))]
-    pub fn at(place: usize) -> Option<Act>
+    pub fn at(place: usize) -> Option<ActKind>
         ensures { result ≡ spec.act_at place }
     {
         act_at(forms(), place)
@@ -302,8 +304,8 @@ impl Act {
         row_at(forms(), self as usize).3
     }
 
-    /// A call's checks in docs/RULES.md, in order: the names of refusals, with commas between them. Those of a party that
-    /// it names come before. Of a step that is no call nothing.
+    /// A call's checks in docs/RULES.md, in order: the names of refusals, with commas between them. Those of a party
+    /// that it names come before. Of an act that is no call nothing.
     #[tactic(auto, unfolding(crate::specs::Steps::checks_of))]
     pub fn checks(self) -> &'static str
         ensures { result.now ≡ spec.checks_of self }
@@ -311,7 +313,7 @@ impl Act {
         row_at(forms(), self as usize).4
     }
 
-    /// What a call is answered, in the words of docs/RULES.md. Of a step that is no call nothing.
+    /// What a call is answered, in the words of docs/RULES.md. Of an act that is no call nothing.
     #[tactic(auto, unfolding(crate::specs::Steps::answer_of))]
     pub fn answer(self) -> &'static str
         ensures { result.now ≡ spec.answer_of self }
@@ -330,7 +332,7 @@ impl Act {
     /// Its keys in a script but for those that every step has, in the order in which they are written, with what stands
     /// under each: at most four.
     #[tactic(auto, unfolding(crate::specs::Steps::keys_of))]
-    pub fn keys(self) -> &'static [StepKey]
+    pub fn keys(self) -> &'static [ActKey]
         ensures keys { spec.keys_named result.now ≡ spec.keys_of self }
         ensures few { length result.now ≤ 4 }
     {
@@ -338,34 +340,34 @@ impl Act {
     }
 }
 
-/// The step that makes this call.
-pub fn act_of(call: Call) -> Act
-    ensures { result ≡ act_of call }
+/// The kind of act that this call is.
+pub fn kind_of(call: Call) -> ActKind
+    ensures { result ≡ kind_of call }
 {
     match call {
-        Call::CreateDevice { .. } => Act::CreateDevice,
-        Call::Attach { .. } => Act::Attach,
-        Call::Detach { .. } => Act::Detach,
-        Call::Delete { .. } => Act::Delete,
-        Call::Allocate { .. } => Act::Allocate,
-        Call::Free { .. } => Act::Free,
-        Call::Cancel { .. } => Act::Cancel,
-        Call::Look { .. } => Act::Look,
-        Call::Reuse { .. } => Act::Reuse,
-        Call::SetNext { .. } => Act::SetNext,
-        Call::CopyToNext { .. } => Act::CopyToNext,
-        Call::Skip { .. } => Act::Skip,
-        Call::MarkPending { .. } => Act::MarkPending,
-        Call::SetRoutine { .. } => Act::SetRoutine,
-        Call::CallDriver { .. } => Act::CallDriver,
-        Call::Complete { .. } => Act::Complete,
-        Call::SetCancelRoutine { .. } => Act::SetCancelRoutine,
-        Call::FinishTaken { .. } => Act::FinishTaken,
+        Call::CreateDevice { .. } => ActKind::CreateDevice,
+        Call::Attach { .. } => ActKind::Attach,
+        Call::Detach { .. } => ActKind::Detach,
+        Call::Delete { .. } => ActKind::Delete,
+        Call::Allocate { .. } => ActKind::Allocate,
+        Call::Free { .. } => ActKind::Free,
+        Call::Cancel { .. } => ActKind::Cancel,
+        Call::Look { .. } => ActKind::Look,
+        Call::Reuse { .. } => ActKind::Reuse,
+        Call::SetNext { .. } => ActKind::SetNext,
+        Call::CopyToNext { .. } => ActKind::CopyToNext,
+        Call::Skip { .. } => ActKind::Skip,
+        Call::MarkPending { .. } => ActKind::MarkPending,
+        Call::SetRoutine { .. } => ActKind::SetRoutine,
+        Call::CallDriver { .. } => ActKind::CallDriver,
+        Call::Complete { .. } => ActKind::Complete,
+        Call::SetCancelRoutine { .. } => ActKind::SetCancelRoutine,
+        Call::FinishTaken { .. } => ActKind::FinishTaken,
     }
 }
 
-/// Each step is the first whose word it has: no two steps have one word.
+/// Each act is the first whose word it has: no two acts have one word.
 #[tactic(auto, unfolding(crate::specs::Steps::act_rows, crate::specs::Steps::act_word, crate::specs::Steps::act_named))]
 pub fn acts_are_named_apart()
-    ensures { (one : Act) → spec.act_named (spec.act_word one) ≡ Some one }
+    ensures { (one : ActKind) → spec.act_named (spec.act_word one) ≡ Some one }
 {}

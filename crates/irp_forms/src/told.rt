@@ -1,6 +1,6 @@
-//! What stands under the keys of an act, and which act it tells: calls of the manager, acts on remove locks and hands,
-//! which entries and word lines of a transcript and steps of a script tell in the same way. Source: this project's own
-//! format (docs/FORMATS.md).
+//! What stands under the keys of an act, and which call, act on a remove lock or hand it is by that. The entries and
+//! word lines of a transcript and the steps of a script tell these in the same way. Source: this project's own format
+//! (docs/FORMATS.md).
 
 ghost use Rattle.std.specs.Prelude.{◌≡◌, ◌≤◌, length, option_map};
 ghost use Rattle.serde_json.specs.View.{view};
@@ -11,7 +11,7 @@ ghost use Rattle.irp_forms.specs.Told as spec;
 use crate::from_value::FromValue;
 use crate::key_parts::Part;
 use crate::parts::{count_members, has_each};
-use crate::step_names::{Act, StepKey};
+use crate::step_names::{ActKey, ActKind};
 use arrayvec::ArrayVec;
 use irp_types::{
     Call, CancelId, DeviceId, DriverId, Hand, LockAct, LockNo, Party, Setting, Status,
@@ -51,7 +51,8 @@ impl<P> Default for Told<P> {
 /// What stands under the keys of an act, in their order.
 pub type AllTold<P> = ArrayVec<Told<P>, MOST_KEYS>;
 
-/// What a value under a key that holds this tells, where this is what the packet reads as. None for another form.
+/// What a value under a key that holds this tells, where this is what the packet reads as. None for another form, and
+/// for what no key of an act holds.
 #[tactic(auto, unfolding(crate::specs::Told::part_at))]
 fn part_at<P: Copy>(part: Part, packet: Option<P>, value: &Value) -> Option<Told<P>>
     ensures { result ≡ spec.part_at part packet (view value.now) }
@@ -70,7 +71,8 @@ fn part_at<P: Copy>(part: Part, packet: Option<P>, value: &Value) -> Option<Told
         Part::Word | Part::Information | Part::Token => {
             Some(Told::Long(FromValue::from_value(value)?))
         }
-        _ => Some(Told::Other),
+        Part::Label => Some(Told::Other),
+        _ => None,
     }
 }
 
@@ -83,7 +85,7 @@ fn part_under<P: Copy>(key: &str, part: Part, packet: Option<P>, value: &Value) 
 
 /// What stands under each of these keys, in their order. None where a key isn't there, or its value has another form.
 #[tactic(auto, unfolding(crate::specs::Told::each_told))]
-fn each_told<P: Copy>(keys: &[StepKey], packet: Option<P>, value: &Value) -> Option<AllTold<P>>
+fn each_told<P: Copy>(keys: &[ActKey], packet: Option<P>, value: &Value) -> Option<AllTold<P>>
     requires { length keys.now ≤ 4 }
     ensures { option_map (λ told. told.items) result
         ≡ spec.each_told (keys_named keys.now) packet (view value.now) }
@@ -96,10 +98,11 @@ fn each_told<P: Copy>(keys: &[StepKey], packet: Option<P>, value: &Value) -> Opt
 }
 
 /// What stands under the keys of an act, in their order, where the value is an object with exactly these keys, at most
-/// four, and those beside them, which differ; the packet is what its `irp` reads as. None for another form.
+/// four, and those beside them, which differ; the packet is what its `irp` reads as. A word line gives None for that,
+/// since it names no packet. None for another form.
 #[tactic(auto, unfolding(crate::specs::Told::told_at))]
 pub fn told_at<P: Copy>(
-    keys: &[StepKey],
+    keys: &[ActKey],
     beside: &[&str],
     packet: Option<P>,
     value: &Value,
@@ -115,12 +118,12 @@ pub fn told_at<P: Copy>(
     }
 }
 
-/// What an act of these is, by what stands under its keys: which it is, with its fields in the order of the keys, and what
-/// each holds.
+/// What an act of these kinds is, by what stands under its keys. A row has the kind, and behind it in the order of the
+/// keys what stands under each and which field that is.
 macro_rules! of_rows {
     ($act:ident $told:ident $made:ident $($one:ident [$($holds:ident $field:ident),*];)*) => {
         match $act {
-            $(Act::$one => match $told {
+            $(ActKind::$one => match $told {
                 &[$(Told::$holds($field)),*] => Some($made::$one { $($field),* }),
                 _ => None,
             },)*
@@ -129,10 +132,10 @@ macro_rules! of_rows {
     };
 }
 
-/// The call that an act is, by what stands under its keys. None for an act that is no call, and where its call has other
-/// fields; none for a finish of a taken packet, which entries and steps tell in different ways.
+/// The call that an act is, by what stands under its keys. None for an act that is no call, and where its call has
+/// other fields; none for a finish of a taken packet, which entries and steps tell in different ways.
 #[tactic(auto, unfolding(crate::specs::Told::call_of))]
-pub fn call_of<P: Copy, T: Copy>(act: Act, told: &[Told<P>]) -> Option<Call<P, T>>
+pub fn call_of<P: Copy, T: Copy>(act: ActKind, told: &[Told<P>]) -> Option<Call<P, T>>
     ensures { result ≡ spec.call_of act told.now }
 {
     of_rows! { act told Call
@@ -158,7 +161,7 @@ pub fn call_of<P: Copy, T: Copy>(act: Act, told: &[Told<P>]) -> Option<Call<P, T
 
 /// The act on a remove lock that an act is, by what stands under its keys. None for another act, and for other fields.
 #[tactic(auto, unfolding(crate::specs::Told::lock_act_of))]
-pub fn lock_act_of<P: Copy>(act: Act, told: &[Told<P>]) -> Option<LockAct>
+pub fn lock_act_of<P: Copy>(act: ActKind, told: &[Told<P>]) -> Option<LockAct>
     ensures { result ≡ spec.lock_act_of act told.now }
 {
     of_rows! { act told LockAct

@@ -22,8 +22,8 @@ use Rattle.irp_script_reader.specs.declared.refusal.ScriptFault.TheVariants as s
 use Rattle.irp_script_reader.specs.declared.script.{ScriptForm.ScriptForm, ScriptParts.ScriptParts}
 use Rattle.irp_script_reader.specs.declared.script.ScriptForm.TheVariants as forms
 use Rattle.irp_names.specs.declared.plan_kinds.PlanKind.TheVariants as kind
-use Rattle.irp_forms.specs.declared.step_names.Act.{Act}
-use Rattle.irp_forms.specs.declared.step_names.Act.TheVariants as word
+use Rattle.irp_forms.specs.declared.step_names.ActKind.{ActKind}
+use Rattle.irp_forms.specs.declared.step_names.ActKind.TheVariants as kind
 use Rattle.irp_grammar.specs.declared.step_line.{PlanLine.PlanLine, StepLine.StepLine, Value.Value}
 use Rattle.irp_grammar.specs.declared.step_line.Value.TheVariants as value
 use Rattle.irp_grammar.specs.declared.{cursor.WordsFault.WordsFault, law.Told.Told, law.Untold.Untold, said.Said.Said}
@@ -72,48 +72,48 @@ six its = take 6 (its ++ none)
 
 -- what a call is said as: its word, and the values of its keys, in their order. No script has a call that allocates: what
 -- it allocates has a label.
-abbrev pub call_said : Call Named ℕ → Act × List Value
-call_said (call.CreateDevice driver lock) = (word.CreateDevice, six (value.Number driver.0 ∷ value.Number lock.0 ∷ []))
-call_said (call.Attach device to) = (word.Attach, six (value.Number device.0 ∷ value.Number to.0 ∷ []))
-call_said (call.Detach lower) = (word.Detach, six (value.Number lower.0 ∷ []))
-call_said (call.Delete device) = (word.Delete, six (value.Number device.0 ∷ []))
-call_said (call.Free irp) = (word.Free, six (value.Packet irp ∷ []))
-call_said (call.Cancel irp) = (word.Cancel, six (value.Packet irp ∷ []))
-call_said (call.Look irp) = (word.Look, six (value.Packet irp ∷ []))
-call_said (call.Reuse irp status) = (word.Reuse, six (value.Packet irp ∷ value.Number status.0 ∷ []))
+abbrev pub call_said : Call Named ℕ → ActKind × List Value
+call_said (call.CreateDevice driver lock) = (kind.CreateDevice, six (value.Number driver.0 ∷ value.Number lock.0 ∷ []))
+call_said (call.Attach device to) = (kind.Attach, six (value.Number device.0 ∷ value.Number to.0 ∷ []))
+call_said (call.Detach lower) = (kind.Detach, six (value.Number lower.0 ∷ []))
+call_said (call.Delete device) = (kind.Delete, six (value.Number device.0 ∷ []))
+call_said (call.Free irp) = (kind.Free, six (value.Packet irp ∷ []))
+call_said (call.Cancel irp) = (kind.Cancel, six (value.Packet irp ∷ []))
+call_said (call.Look irp) = (kind.Look, six (value.Packet irp ∷ []))
+call_said (call.Reuse irp status) = (kind.Reuse, six (value.Packet irp ∷ value.Number status.0 ∷ []))
 call_said (call.FinishTaken irp slot status information) =
-    (word.FinishTaken, six (value.Packet irp ∷ value.Number slot ∷ value.Number status.0 ∷ value.Number information ∷ []))
-call_said (call.Allocate size) = (word.Allocate, six (value.Number size ∷ []))
+    (kind.FinishTaken, six (value.Packet irp ∷ value.Number slot ∷ value.Number status.0 ∷ value.Number information ∷ []))
+call_said (call.Allocate size) = (kind.Allocate, six (value.Number size ∷ []))
 call_said (call.SetNext by irp major its) =
-    (word.SetNext, six (party_value by ∷ value.Packet irp ∷ value.Number major ∷ value.Number its ∷ []))
-call_said (call.CopyToNext by irp) = (word.CopyToNext, six (party_value by ∷ value.Packet irp ∷ []))
-call_said (call.Skip by irp) = (word.Skip, six (party_value by ∷ value.Packet irp ∷ []))
-call_said (call.MarkPending by irp) = (word.MarkPending, six (party_value by ∷ value.Packet irp ∷ []))
+    (kind.SetNext, six (party_value by ∷ value.Packet irp ∷ value.Number major ∷ value.Number its ∷ []))
+call_said (call.CopyToNext by irp) = (kind.CopyToNext, six (party_value by ∷ value.Packet irp ∷ []))
+call_said (call.Skip by irp) = (kind.Skip, six (party_value by ∷ value.Packet irp ∷ []))
+call_said (call.MarkPending by irp) = (kind.MarkPending, six (party_value by ∷ value.Packet irp ∷ []))
 call_said (call.SetRoutine by irp setting) =
-    (word.SetRoutine, six (party_value by ∷ value.Packet irp ∷ value.Set setting ∷ []))
+    (kind.SetRoutine, six (party_value by ∷ value.Packet irp ∷ value.Set setting ∷ []))
 call_said (call.CallDriver by irp target) =
-    (word.CallDriver, six (party_value by ∷ value.Packet irp ∷ value.Number target.0 ∷ []))
+    (kind.CallDriver, six (party_value by ∷ value.Packet irp ∷ value.Number target.0 ∷ []))
 call_said (call.Complete by irp status information) =
-    (word.Complete, six (party_value by ∷ value.Packet irp ∷ value.Number status.0 ∷ value.Number information ∷ []))
+    (kind.Complete, six (party_value by ∷ value.Packet irp ∷ value.Number status.0 ∷ value.Number information ∷ []))
 call_said (call.SetCancelRoutine by irp cancel) =
-    (word.SetCancelRoutine, six (party_value by ∷ value.Packet irp ∷ cancel_value cancel ∷ []))
+    (kind.SetCancelRoutine, six (party_value by ∷ value.Packet irp ∷ cancel_value cancel ∷ []))
 
 -- what an act on a remove lock is said as
-abbrev pub lock_act_said : LockAct → Act × List Value
-lock_act_said (lock_act.Acquire lock tag) = (word.Acquire, six (value.Number lock.0 ∷ value.Number tag ∷ []))
-lock_act_said (lock_act.Release lock tag) = (word.Release, six (value.Number lock.0 ∷ value.Number tag ∷ []))
-lock_act_said (lock_act.BeginRemove lock tag) = (word.BeginRemove, six (value.Number lock.0 ∷ value.Number tag ∷ []))
-lock_act_said (lock_act.Drained lock) = (word.Drained, six (value.Number lock.0 ∷ []))
+abbrev pub lock_act_said : LockAct → ActKind × List Value
+lock_act_said (lock_act.Acquire lock tag) = (kind.Acquire, six (value.Number lock.0 ∷ value.Number tag ∷ []))
+lock_act_said (lock_act.Release lock tag) = (kind.Release, six (value.Number lock.0 ∷ value.Number tag ∷ []))
+lock_act_said (lock_act.BeginRemove lock tag) = (kind.BeginRemove, six (value.Number lock.0 ∷ value.Number tag ∷ []))
+lock_act_said (lock_act.Drained lock) = (kind.Drained, six (value.Number lock.0 ∷ []))
 
 -- what a step is said as
-abbrev pub act_said : StepAct → Act × List Value
+abbrev pub act_said : StepAct → ActKind × List Value
 act_said (does.Call made) = call_said made
-act_said (does.Allocate size label) = (word.Allocate, six (value.Number size ∷ value.Packet (named.Label label) ∷ []))
+act_said (does.Allocate size label) = (kind.Allocate, six (value.Number size ∷ value.Packet (named.Label label) ∷ []))
 act_said (does.OnLock on) = lock_act_said on
-act_said (does.Hand hand) = (word.Hand, six (value.Number hand.lock.0 ∷ value.Number hand.tag ∷ value.Number hand.to ∷ []))
-act_said (does.Publish slot irp) = (word.Publish, six (value.Number slot ∷ value.Packet irp ∷ []))
-act_said (does.Withdraw slot) = (word.Withdraw, six (value.Number slot ∷ []))
-act_said (does.Request slot) = (word.Request, six (value.Number slot ∷ []))
+act_said (does.Hand hand) = (kind.Hand, six (value.Number hand.lock.0 ∷ value.Number hand.tag ∷ value.Number hand.to ∷ []))
+act_said (does.Publish slot irp) = (kind.Publish, six (value.Number slot ∷ value.Packet irp ∷ []))
+act_said (does.Withdraw slot) = (kind.Withdraw, six (value.Number slot ∷ []))
+act_said (does.Request slot) = (kind.Request, six (value.Number slot ∷ []))
 
 -- the line of a step
 abbrev pub line_of : Step → StepLine

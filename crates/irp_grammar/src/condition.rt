@@ -4,7 +4,7 @@
 use crate::cursor::Cursor;
 use crate::said::Said;
 use crate::wanted::Wanted;
-use irp_forms::{Act, HasName, Part, named};
+use irp_forms::{ActKind, HasName, Part, named};
 use irp_names::Sink;
 use irp_script_reader::{AnswerWord, Condition, ExpectedAnswer};
 use irp_types::{CancelId, Refusal, Status};
@@ -71,7 +71,7 @@ impl<'a> Said<'a> {
     /// The cancel routine that the next word is, behind `routine`, or whichever: what may begin a step begins that.
     fn take_routine_or_any(&self, words: &mut Cursor<'_, '_>) -> ExpectedAnswer {
         let text = words.text();
-        if Act::named(text).is_some() || text == "stack" {
+        if ActKind::named(text).is_some() || text == "stack" {
             return ExpectedAnswer::AnyRoutine;
         }
         match self.names.short(Part::Cancel, text) {

@@ -3,7 +3,7 @@
 use crate::condition::ANSWERS;
 use crate::names::{Names, named_as};
 use crate::wanted::Wanted;
-use irp_forms::{Act, Part};
+use irp_forms::{ActKind, Part};
 use irp_names::{PlanKind, major_name, minor_at, rule_names, status_names};
 use std::alloc::{AllocError, Global};
 use strsim::levenshtein;
@@ -49,7 +49,7 @@ fn name_at(wanted: Wanted, number: u8) -> Option<&'static str> {
         Wanted::Of(Part::Status) => Some(status_names().get(place)?.1),
         Wanted::Of(Part::Major) => major_name(number),
         Wanted::Of(Part::Word) => minor_at(place),
-        Wanted::Act => Some(Act::at(place)?.word()),
+        Wanted::Act => Some(ActKind::at(place)?.word()),
         Wanted::Plan => Some(PlanKind::at(place)?.word()),
         Wanted::Answer => answer_at(place),
         Wanted::Key(act) => Some(act.keys().get(place)?.0),

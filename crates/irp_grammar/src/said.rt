@@ -8,7 +8,7 @@ use crate::names::{Name, Names, is_name};
 use crate::near::hint;
 use crate::step_line::{PlanLine, StepLine};
 use crate::wanted::{StepFault, Wanted};
-use irp_forms::{Act, Part};
+use irp_forms::{ActKind, Part};
 use irp_script_reader::{CompletionRoutine, Condition, ScriptRefusal, Section};
 use irp_types::{CancelAnswer, DispatchId, Known, Row, Rule};
 use std::alloc::{AllocError, Global};
@@ -224,8 +224,8 @@ impl<'a> Said<'a> {
         }
         match line.act {
             _ if self.form_number() == 1 => Some(StepFault::Form),
-            Act::Hand => Some(StepFault::Hand),
-            Act::Publish | Act::Withdraw => Some(StepFault::Slot),
+            ActKind::Hand => Some(StepFault::Hand),
+            ActKind::Publish | ActKind::Withdraw => Some(StepFault::Slot),
             _ => None,
         }
     }

@@ -4,7 +4,7 @@ ghost use Rattle.std.specs.Prelude.{◌≡◌};
 ghost use Rattle.irp_grammar.specs.Saying as spec;
 
 use Value::{Absent, Number, Packet, Set};
-use irp_forms::{Act, StepPlace};
+use irp_forms::{ActKind, StepPlace};
 use irp_names::PlanKind;
 use irp_script_reader::{Condition, Named, Step, StepAct};
 use irp_types::{Call, CancelId, Hand, LockAct, Party, Plan, Setting};
@@ -35,7 +35,7 @@ pub const NONE: Values = [Absent, Absent, Absent, Absent, Absent, Absent];
 #[derive(Clone, Copy, PartialEq, Eq)]
 pub struct StepLine {
     pub seat: u32,
-    pub act: Act,
+    pub act: ActKind,
     pub values: Values,
     pub condition: Option<Condition>,
 }
@@ -120,10 +120,10 @@ macro_rules! said {
 }
 
 /// What a call is said as. No script has one that allocates: what it allocates has a label.
-fn call_said(call: Call<Named, u32>) -> (Act, Values)
+fn call_said(call: Call<Named, u32>) -> (ActKind, Values)
     ensures { result ≡ spec.call_said call }
 {
-    said!(call Call Act;
+    said!(call Call ActKind;
         CreateDevice { driver id lock id }
         Attach { device id to id }
         Detach { lower id }
@@ -146,10 +146,10 @@ fn call_said(call: Call<Named, u32>) -> (Act, Values)
 }
 
 /// What an act on a remove lock is said as.
-fn lock_act_said(on: LockAct) -> (Act, Values)
+fn lock_act_said(on: LockAct) -> (ActKind, Values)
     ensures { result ≡ spec.lock_act_said on }
 {
-    said!(on LockAct Act;
+    said!(on LockAct ActKind;
         Acquire { lock id tag short }
         Release { lock id tag short }
         BeginRemove { lock id tag short }
@@ -158,17 +158,20 @@ fn lock_act_said(on: LockAct) -> (Act, Values)
 }
 
 /// What a step is said as: its word, and the values of its keys.
-fn act_said(act: StepAct) -> (Act, Values)
+fn act_said(act: StepAct) -> (ActKind, Values)
     ensures { result ≡ spec.act_said act }
 {
     match act {
         StepAct::Call(call) => call_said(call),
-        StepAct::Allocate { size, label } => (Act::Allocate, values!(size short label label)),
+        StepAct::Allocate { size, label } => (ActKind::Allocate, values!(size short label label)),
         StepAct::OnLock(on) => lock_act_said(on),
-        StepAct::Hand(Hand { lock, tag, to }) => (Act::Hand, values!(lock id tag short to short)),
-        StepAct::Publish { slot, irp } => (Act::Publish, values!(slot short irp packet)),
-        StepAct::Withdraw { slot } => (Act::Withdraw, values!(slot short)),
-        StepAct::Request { slot } => (Act::Request, values!(slot short)),
+        StepAct::Hand(Hand { lock, tag, to }) => (
+            ActKind::Hand,
+            values!(lock id tag short to short),
+        ),
+        StepAct::Publish { slot, irp } => (ActKind::Publish, values!(slot short irp packet)),
+        StepAct::Withdraw { slot } => (ActKind::Withdraw, values!(slot short)),
+        StepAct::Request { slot } => (ActKind::Request, values!(slot short)),
     }
 }
 

@@ -4,7 +4,7 @@ use crate::cursor::Cursor;
 use crate::said::Said;
 use crate::step_line::{NONE, StepLine, Value, Values};
 use crate::wanted::Wanted;
-use irp_forms::{Act, Part};
+use irp_forms::{ActKind, Part};
 use irp_script_reader::{Condition, Section};
 
 /// What stands before a step on its line: the section above, its seat, and what it hangs on.
@@ -17,7 +17,7 @@ struct Head {
 
 impl Head {
     /// The step with this word and these values.
-    fn step(self, act: Act, values: Values) -> StepLine {
+    fn step(self, act: ActKind, values: Values) -> StepLine {
         StepLine {
             seat: self.seat,
             act,
@@ -30,7 +30,7 @@ impl Head {
 impl<'a> Said<'a> {
     /// Takes a step; none where memory runs out.
     fn add_step(&mut self, section: Section, step: StepLine) -> Option<()> {
-        if step.act == Act::CreateDevice {
+        if step.act == ActKind::CreateDevice {
             self.devices = self.devices.saturating_add(1);
         }
         match section {
@@ -65,7 +65,7 @@ impl<'a> Said<'a> {
                 values[0] = Value::Number(u64::from(device));
                 values[1] = Value::Number(u64::from(device - 1));
                 self.place(head.section, &begin)?;
-                self.add_step(head.section, head.step(Act::Attach, values))?;
+                self.add_step(head.section, head.step(ActKind::Attach, values))?;
             }
         }
         Some(())
@@ -91,7 +91,7 @@ impl<'a> Said<'a> {
                 self.place(head.section, words)?;
             }
             self.take_stack_device(&mut values, words)?;
-            self.add_step(head.section, head.step(Act::CreateDevice, values))?;
+            self.add_step(head.section, head.step(ActKind::CreateDevice, values))?;
             if words.left() == 0 {
                 return Some(());
             }
@@ -110,9 +110,9 @@ impl<'a> Said<'a> {
 
     /// Takes a step, behind its head.
     fn take_act(&mut self, head: Head, words: &mut Cursor<'a, '_>) -> Option<()> {
-        let act = words.taken(Act::named(words.text()), Wanted::Act)?;
+        let act = words.taken(ActKind::named(words.text()), Wanted::Act)?;
         let values = self.take_values(act, words)?;
-        if act == Act::CreateDevice {
+        if act == ActKind::CreateDevice {
             self.take_device_name(words)?;
         }
         self.add_step(head.section, head.step(act, values))

@@ -6,7 +6,7 @@ use crate::numbers::number_in;
 use crate::said::Said;
 use crate::step_line::{NONE, Value, Values};
 use crate::wanted::Wanted;
-use irp_forms::{Act, Flags, Part, flags_named, named};
+use irp_forms::{ActKind, Flags, Part, flags_named, named};
 use irp_script_reader::Named;
 use irp_types::{IrpRef, RoutineId, Rule, Setting};
 
@@ -115,7 +115,7 @@ impl<'a> Said<'a> {
     /// Takes a key of a step, which wasn't taken yet, with its value.
     fn take_key(
         &mut self,
-        act: Act,
+        act: ActKind,
         values: &mut Values,
         words: &mut Cursor<'a, '_>,
     ) -> Option<()> {
@@ -131,7 +131,7 @@ impl<'a> Said<'a> {
     }
 
     /// The values of a step's keys, which are the next words with them, in any order.
-    pub fn take_values(&mut self, act: Act, words: &mut Cursor<'a, '_>) -> Option<Values> {
+    pub fn take_values(&mut self, act: ActKind, words: &mut Cursor<'a, '_>) -> Option<Values> {
         let mut values = NONE;
         for _ in act.keys() {
             self.take_key(act, &mut values, words)?;

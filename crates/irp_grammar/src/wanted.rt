@@ -1,7 +1,7 @@
 //! What was expected in the place of a word.
 
 use crate::names::named_as;
-use irp_forms::{Act, Part};
+use irp_forms::{ActKind, Part};
 use irp_names::Sink;
 use irp_script_reader::{MemberFault, ScriptRefusal, Section};
 
@@ -32,7 +32,7 @@ pub enum Wanted {
     /// The word of a step.
     Act,
     /// A key of this step that it doesn't have yet.
-    Key(Act),
+    Key(ActKind),
     /// `lock`, behind `stack`.
     StackLock,
     /// A word that may be a name.
@@ -199,7 +199,7 @@ fn put_refusal(text: &mut Sink, words: &str, refusal: ScriptRefusal) {
 }
 
 /// Puts the keys of a step, each behind a blank.
-fn put_keys(text: &mut Sink, act: Act) {
+fn put_keys(text: &mut Sink, act: ActKind) {
     text.put("a key of ");
     text.put(act.word());
     text.put(", each once:");

@@ -5,9 +5,9 @@ pub use Rattle.irp_types.specs.Refusal.{refusal_meaning, refusal_name}
 use Rattle.irp_types.specs.Calls.{Call}
 use Rattle.irp_types.specs.declared.refusal.Refusal.{Refusal}
 use Rattle.irp_types.specs.declared.refusal.Refusal.TheVariants as refusal
-use Rattle.irp_forms.specs.Steps.{act_of}
-use Rattle.irp_forms.specs.declared.step_names.Act.{Act}
-use Rattle.irp_forms.specs.declared.step_names.Act.TheVariants as act
+use Rattle.irp_forms.specs.Steps.{kind_of}
+use Rattle.irp_forms.specs.declared.step_names.ActKind.{ActKind}
+use Rattle.irp_forms.specs.declared.step_names.ActKind.TheVariants as act
 
 -- the name in Windows of the mistake for which such a call is refused so, if there is one
 abbrev pub completion_name : Refusal → Option (List ℕ)
@@ -29,7 +29,7 @@ abbrev pub delete_name : Refusal → Option (List ℕ)
 delete_name refusal.NotDrained = Some (codes "the RemoveLock rules")
 delete_name _ = None
 
-abbrev pub mistake_name : Act → Refusal → Option (List ℕ)
+abbrev pub mistake_name : ActKind → Refusal → Option (List ℕ)
 mistake_name act.CallDriver refusal = sending_name refusal
 mistake_name act.Complete refusal = completion_name refusal
 mistake_name act.FinishTaken refusal = completion_name refusal
@@ -38,7 +38,7 @@ mistake_name act.Delete refusal = delete_name refusal
 mistake_name _ refusal = None
 
 abbrev pub windows_name : Call → Refusal → Option (List ℕ)
-windows_name call refusal = mistake_name (act_of call) refusal
+windows_name call refusal = mistake_name (kind_of call) refusal
 
 -- a refusal, when it comes, and its name in Windows where it has one
 abbrev pub refusal_text : Call → Refusal → List ℕ

@@ -8,7 +8,7 @@ use crate::closures::SettingWords;
 use crate::majors::MajorWords;
 use crate::small::{Hex, PacketWords};
 use crate::statuses::{ResultWords, StatusWords};
-use irp_forms::act_of;
+use irp_forms::kind_of;
 use irp_types::{Call, CancelId};
 use std::fmt;
 
@@ -18,7 +18,7 @@ use std::fmt;
 pub fn call_name(call: Call) -> &'static str
     ensures { result.now ≡ call_name call }
 {
-    act_of(call).windows_name()
+    kind_of(call).windows_name()
 }
 
 /// A call with its arguments, as a driver would write it, such as `IoCallDriver(D2, IRP 0.1)`. Of a Delete it tells

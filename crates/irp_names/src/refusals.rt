@@ -4,7 +4,7 @@ ghost use Rattle.std.specs.Prelude.{◌≡◌, Some};
 ghost use Rattle.std.specs.Option.{option_map};
 ghost use Rattle.irp_names.specs.Refusals.{completion_name, delete_name, mistake_name, refusal_text, reuse_name, sending_name, windows_name};
 
-use irp_forms::{Act, act_of};
+use irp_forms::{ActKind, kind_of};
 use irp_types::{Call, Refusal, refusal_meaning, refusal_name};
 use std::fmt;
 
@@ -13,18 +13,18 @@ use std::fmt;
 pub fn windows_name(call: Call, refusal: Refusal) -> Option<&'static str>
     ensures { option_map (λ name. name.now) result ≡ windows_name call refusal }
 {
-    mistake_name(act_of(call), refusal)
+    mistake_name(kind_of(call), refusal)
 }
 
 /// The same for the call that such a step makes.
-pub fn mistake_name(act: Act, refusal: Refusal) -> Option<&'static str>
+pub fn mistake_name(act: ActKind, refusal: Refusal) -> Option<&'static str>
     ensures { option_map (λ name. name.now) result ≡ mistake_name act refusal }
 {
     match act {
-        Act::CallDriver => sending_name(refusal),
-        Act::Complete | Act::FinishTaken => completion_name(refusal),
-        Act::Reuse => reuse_name(refusal),
-        Act::Delete => delete_name(refusal),
+        ActKind::CallDriver => sending_name(refusal),
+        ActKind::Complete | ActKind::FinishTaken => completion_name(refusal),
+        ActKind::Reuse => reuse_name(refusal),
+        ActKind::Delete => delete_name(refusal),
         _ => None,
     }
 }

@@ -8,11 +8,11 @@ ghost use Rattle.irp_script_reader.specs.Acts as spec;
 use crate::act::{Named, Step, StepAct};
 use crate::condition::Condition;
 use crate::labels::{is_label, packet_in};
-use irp_forms::{Act, FromValue, Told, call_of, hand_of, lock_act_of, told_at, under};
+use irp_forms::{ActKind, FromValue, Told, call_of, hand_of, lock_act_of, told_at, under};
 use irp_types::Call;
 use serde_json::Value;
 
-/// The keys that stand beside those of an act: `if` where the step has it.
+/// The keys that stand beside those of an act: `do`, `seat`, and `if` where it is there.
 fn beside(value: &Value) -> &'static [&'static str]
     ensures { keys_in result.now ≡ spec.beside (view value.now) }
 {
@@ -32,30 +32,30 @@ fn allocate_at(size: u8, place: usize, value: &Value) -> Option<StepAct>
 }
 
 /// What a step does that makes a call or an act on a remove lock, by what stands under its keys.
-fn shared_act_of(act: Act, told: &[Told<Named>]) -> Option<StepAct>
-    ensures { result ≡ spec.shared_act_of act told.now }
+fn shared_act_of(kind: ActKind, told: &[Told<Named>]) -> Option<StepAct>
+    ensures { result ≡ spec.shared_act_of kind told.now }
 {
-    match lock_act_of(act, told) {
+    match lock_act_of(kind, told) {
         Some(on) => Some(StepAct::OnLock(on)),
-        None => call_of(act, told).map(StepAct::Call),
+        None => call_of(kind, told).map(StepAct::Call),
     }
 }
 
 /// What a step does, by what stands under its keys, where a label that it names has this place.
-fn step_act_of(act: Act, told: &[Told<Named>], place: usize, value: &Value) -> Option<StepAct>
-    ensures { result ≡ spec.step_act_of act told.now place (view value.now) }
+fn step_act_of(kind: ActKind, told: &[Told<Named>], place: usize, value: &Value) -> Option<StepAct>
+    ensures { result ≡ spec.step_act_of kind told.now place (view value.now) }
 {
-    match (act, told) {
-        (Act::Allocate, &[Told::Byte(size), Told::Other]) => allocate_at(size, place, value),
-        (Act::Allocate, _) => None,
-        (Act::Hand, _) => hand_of(told).map(StepAct::Hand),
-        (Act::Publish, &[Told::Number(slot), Told::Packet(irp)]) => {
+    match (kind, told) {
+        (ActKind::Allocate, &[Told::Byte(size), Told::Other]) => allocate_at(size, place, value),
+        (ActKind::Allocate, _) => None,
+        (ActKind::Hand, _) => hand_of(told).map(StepAct::Hand),
+        (ActKind::Publish, &[Told::Number(slot), Told::Packet(irp)]) => {
             Some(StepAct::Publish { slot, irp })
         }
-        (Act::Withdraw, &[Told::Number(slot)]) => Some(StepAct::Withdraw { slot }),
-        (Act::Request, &[Told::Number(slot)]) => Some(StepAct::Request { slot }),
+        (ActKind::Withdraw, &[Told::Number(slot)]) => Some(StepAct::Withdraw { slot }),
+        (ActKind::Request, &[Told::Number(slot)]) => Some(StepAct::Request { slot }),
         (
-            Act::FinishTaken,
+            ActKind::FinishTaken,
             &[
                 Told::Packet(irp),
                 Told::Number(token),
@@ -68,7 +68,7 @@ fn step_act_of(act: Act, told: &[Told<Named>], place: usize, value: &Value) -> O
             status,
             information,
         })),
-        _ => shared_act_of(act, told),
+        _ => shared_act_of(kind, told),
     }
 }
 
@@ -77,9 +77,9 @@ fn step_act_of(act: Act, told: &[Told<Named>], place: usize, value: &Value) -> O
 fn act_at(place: usize, value: &Value) -> Option<StepAct>
     ensures { result ≡ spec.act_at place (view value.now) }
 {
-    let act = Act::named(value.get("do").and_then(Value::as_str)?)?;
-    let told = told_at(act.keys(), beside(value), packet_in(place, value), value)?;
-    step_act_of(act, told.as_slice(), place, value)
+    let kind = ActKind::named(value.get("do").and_then(Value::as_str)?)?;
+    let told = told_at(kind.keys(), beside(value), packet_in(place, value), value)?;
+    step_act_of(kind, told.as_slice(), place, value)
 }
 
 /// The condition of a step, or none where it has no such key. None of both where it has another form.

@@ -3,7 +3,7 @@ use Rattle.std.proofs.Common.{◌≡◌, true, false, refl}
 use Rattle.std.proofs.lemmas.Bool.{false≢true}
 use Rattle.irp_slots.specs.declared.views.Stage.{Stage}
 use Rattle.irp_slots.specs.declared.views.Stage.TheVariants.{Idle, Published, Standing, Done}
-use Rattle.irp_slots.specs.Core.{is_begun, is_standing}
+use Rattle.irp_slots.specs.Core.{is_begun}
 
 -- a stage that has not begun is idle
 pub idle_if : (stage : Stage) → false ≡ is_begun stage → stage ≡ Idle
@@ -11,10 +11,3 @@ idle_if Idle e = refl
 idle_if Published e = absurd (false≢true e)
 idle_if Standing e = absurd (false≢true e)
 idle_if Done e = absurd (false≢true e)
-
--- a stage that stands has begun
-pub begun_if : (stage : Stage) → is_standing stage ≡ true → is_begun stage ≡ true
-begun_if Idle e = absurd (false≢true e)
-begun_if Published e = refl
-begun_if Standing e = refl
-begun_if Done e = refl

@@ -1,7 +1,7 @@
-//! The steps, and their keys in transcripts and scripts (docs/FORMATS.md). The rows stand in irp_forms.
+//! The acts, and their keys in transcripts and scripts (docs/FORMATS.md). The rows stand in irp_forms.
 
-use crate::part::{Deed, Part};
-use irp_forms::{Act, each_act};
+use crate::part::{ActForm, Part};
+use irp_forms::{ActKind, each_act};
 
 /// A key of a step in a script, and what stands under it.
 macro_rules! step_key {
@@ -15,7 +15,7 @@ macro_rules! step_key {
 macro_rules! of_calls {
     ($($act:ident $word:literal $windows:literal $rules:literal $checks:literal $answer:literal
         $place:ident [$($step:tt)*] [$($key:literal $part:ident)*] [$($line:tt)*];)*) => {
-        [$(Deed { act: Act::$act, keys: &[$(($key, Part::$part)),*] }),*]
+        [$(ActForm { act: ActKind::$act, keys: &[$(($key, Part::$part)),*] }),*]
     };
 }
 
@@ -23,7 +23,7 @@ macro_rules! of_calls {
 macro_rules! of_lines {
     ($($act:ident $word:literal $windows:literal $rules:literal $checks:literal $answer:literal
         $place:ident [$($step:tt)*] [$($call:tt)*] [$($key:literal $part:ident)*];)*) => {
-        [$(Deed { act: Act::$act, keys: &[$(($key, Part::$part)),*] }),*]
+        [$(ActForm { act: ActKind::$act, keys: &[$(($key, Part::$part)),*] }),*]
     };
 }
 
@@ -31,39 +31,39 @@ macro_rules! of_lines {
 macro_rules! of_steps {
     ($($act:ident $word:literal $windows:literal $rules:literal $checks:literal $answer:literal
         $place:ident [$($key:tt $part:ident)*] [$($call:tt)*] [$($line:tt)*];)*) => {
-        [$(Deed {
-            act: Act::$act,
+        [$(ActForm {
+            act: ActKind::$act,
             keys: &[("seat", Part::Seat), ("do", Part::Any), $(step_key!($key $part)),*],
         }),*]
     };
 }
 
-/// The steps as calls.
-static CALLS: [Deed; 26] = each_act!(of_calls);
+/// The acts as calls.
+static CALLS: [ActForm; 26] = each_act!(of_calls);
 
-/// The steps as word lines.
-static LINES: [Deed; 26] = each_act!(of_lines);
+/// The acts as word lines.
+static LINES: [ActForm; 26] = each_act!(of_lines);
 
-/// The steps in scripts.
-static STEPS: [Deed; 26] = each_act!(of_steps);
+/// The acts in scripts.
+static STEPS: [ActForm; 26] = each_act!(of_steps);
 
 /// The calls. No other function names the table, since a check reads it whole at each that does.
-fn calls() -> &'static [Deed] {
+fn calls() -> &'static [ActForm] {
     &CALLS
 }
 
 /// The word lines.
-fn lines() -> &'static [Deed] {
+fn lines() -> &'static [ActForm] {
     &LINES
 }
 
 /// The steps of scripts.
-fn steps() -> &'static [Deed] {
+fn steps() -> &'static [ActForm] {
     &STEPS
 }
 
-/// The steps, with their keys in such a part.
-pub fn deeds_of(part: Part) -> &'static [Deed] {
+/// The acts, with their keys in such a part.
+pub fn acts_of(part: Part) -> &'static [ActForm] {
     match part {
         Part::Call => calls(),
         Part::WordLine => lines(),

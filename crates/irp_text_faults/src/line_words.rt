@@ -1,6 +1,6 @@
 //! Misfits of a transcript's line, in words.
 
-use crate::acts::deeds_of;
+use crate::acts::acts_of;
 use crate::kinds::{has_kind, kinds};
 use crate::nodes::Node;
 use crate::part::{Body, Part, Shape};
@@ -9,7 +9,7 @@ use crate::search::{Bounds, Misfit, What};
 use crate::tokens::Kind;
 use crate::words::{Finding, Piece};
 use Piece::{Keys, Letter, Number, Quoted, Say};
-use irp_forms::{Act, StepPlace};
+use irp_forms::{ActKind, StepPlace};
 use serde_json::Value;
 
 /// Puts what a part may be, behind its noun.
@@ -49,7 +49,7 @@ fn put_part(found: &mut Finding, bounds: Bounds, part: Part) {
 }
 
 /// Whether a step's word stands behind that of another one in the order of bytes; it does where there is no other.
-fn is_behind(other: Option<Act>, act: Act) -> bool {
+fn is_behind(other: Option<ActKind>, act: ActKind) -> bool {
     match other {
         None => true,
         Some(other) => other.word() < act.word(),
@@ -57,16 +57,16 @@ fn is_behind(other: Option<Act>, act: Act) -> bool {
 }
 
 /// The step of such a part, of form 1 or of both, whose word comes next behind that of this one in the order of bytes.
-fn next_step(part: Part, two: bool, last: Option<Act>) -> Option<Act> {
+fn next_step(part: Part, two: bool, last: Option<ActKind>) -> Option<ActKind> {
     let mut found = None;
-    for deed in deeds_of(part) {
-        let is_there = !deed.keys.is_empty() && (two || deed.act.place() != StepPlace::FormTwo);
+    for form in acts_of(part) {
+        let is_there = !form.keys.is_empty() && (two || form.act.place() != StepPlace::FormTwo);
         let is_first = match found {
             None => true,
-            Some(_) => !is_behind(found, deed.act),
+            Some(_) => !is_behind(found, form.act),
         };
-        if is_there && is_first && is_behind(last, deed.act) {
-            found = Some(deed.act);
+        if is_there && is_first && is_behind(last, form.act) {
+            found = Some(form.act);
         }
     }
     found
@@ -75,7 +75,7 @@ fn next_step(part: Part, two: bool, last: Option<Act>) -> Option<Act> {
 /// Puts the words of the steps of such a part, of form 1 or of both, in the order of bytes, with commas.
 fn put_steps(found: &mut Finding, part: Part, two: bool) {
     let mut last = None;
-    for _ in deeds_of(part) {
+    for _ in acts_of(part) {
         let Some(act) = next_step(part, two, last) else {
             return;
         };

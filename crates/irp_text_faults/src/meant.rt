@@ -1,6 +1,6 @@
 //! What was meant by a value of a script that isn't as it should be.
 
-use crate::acts::deeds_of;
+use crate::acts::acts_of;
 use crate::fits::{MOST, is_one_of, texts_of};
 use crate::kinds::{has_kind, kinds};
 use crate::near::{edits, nearest};
@@ -9,7 +9,7 @@ use crate::part::{Body, Key, Part, Shape};
 use crate::parts::{shape_for, shape_of};
 use crate::tokens::cut;
 use crate::words::Remedy;
-use irp_forms::Act;
+use irp_forms::ActKind;
 use irp_names::{major_name, status_name, status_names};
 use irp_types::Status;
 use irp_types::limits::LAST_MAJOR;
@@ -185,10 +185,10 @@ pub fn meant_kind(node: Node, part: Part, in_list: bool) -> Remedy {
 }
 
 /// How many letters lead from a word to the name of a step, its own or that of Windows.
-fn far_from(word: &[u8], act: Act) -> Option<u32> {
+fn far_from(word: &[u8], act: ActKind) -> Option<u32> {
     match edits(word, act.word()) {
         Some(count) => Some(count),
-        None if act == Act::Look => None,
+        None if act == ActKind::Look => None,
         None => edits(word, act.windows_name()),
     }
 }
@@ -196,8 +196,8 @@ fn far_from(word: &[u8], act: Act) -> Option<u32> {
 /// The step that is meant by a word.
 pub fn meant_act(word: &[u8]) -> Remedy {
     let mut found = None;
-    for deed in deeds_of(Part::ScriptStep) {
-        found = nearer(found, 0, deed.act.word(), far_from(word, deed.act));
+    for form in acts_of(Part::ScriptStep) {
+        found = nearer(found, 0, form.act.word(), far_from(word, form.act));
     }
     word_of(found)
 }

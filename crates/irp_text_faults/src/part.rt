@@ -1,7 +1,7 @@
 //! The forms that parts of scripts and of transcripts' lines may have.
 
 pub use crate::parts::Part;
-use irp_forms::Act;
+use irp_forms::ActKind;
 
 /// What a part may be.
 #[derive(Clone, Copy)]
@@ -53,10 +53,10 @@ pub enum Shape {
 /// A key of an object, and what stands under it.
 pub type Key = (&'static str, Part);
 
-/// A step, and its keys in a part of such a kind. It has none where it can't be such a part.
+/// An act, and its keys in a part of such a kind. It has none where it can't be such a part.
 #[derive(Clone, Copy)]
-pub struct Deed {
-    pub act: Act,
+pub struct ActForm {
+    pub act: ActKind,
     pub keys: &'static [Key],
 }
 

@@ -1,11 +1,11 @@
 //! The first part of a value that isn't as it should be. Values are looked through in the order of the tables, an object's
 //! keys before what stands under them.
 
-use crate::acts::deeds_of;
+use crate::acts::acts_of;
 use crate::fits::fits;
 use crate::kinds::{has_kind, kinds};
 use crate::nodes::Node;
-use crate::part::{Body, Deed, Key, Kind, Part, Shape};
+use crate::part::{ActForm, Body, Key, Kind, Part, Shape};
 use crate::parts::{noun_of, shape_for};
 use crate::tokens::Kind as TokenKind;
 use irp_forms::StepPlace;
@@ -149,10 +149,10 @@ fn unknown_key<'t>(text: Text, node: Node<'t>, part: Part, keys: &[Key]) -> Opti
 }
 
 /// The step whose word this is, of those that have keys in such a part.
-fn deed_at(name: Node, part: Part) -> Option<Deed> {
-    for deed in deeds_of(part) {
-        if !deed.keys.is_empty() && name.is_word(deed.act.word()) {
-            return Some(*deed);
+fn act_at(name: Node, part: Part) -> Option<ActForm> {
+    for form in acts_of(part) {
+        if !form.keys.is_empty() && name.is_word(form.act.word()) {
+            return Some(*form);
         }
     }
     None
@@ -261,14 +261,14 @@ impl<'t> Search<'t> {
     }
 
     /// Looks at an object of this step, whose word stands here.
-    fn look_at_deed(&mut self, node: Node<'t>, word: Node<'t>, part: Part, deed: Deed) {
-        let (name, place) = (deed.act.word(), deed.act.place());
+    fn look_at_form(&mut self, node: Node<'t>, word: Node<'t>, part: Part, form: ActForm) {
+        let (name, place) = (form.act.word(), form.act.place());
         if place == StepPlace::FormTwo && !self.bounds.two {
             self.fails(word, part, What::FormOneHasNo(name));
         } else if place != StepPlace::Anywhere && self.bounds.text == Text::Setup {
             self.fails(word, part, What::SetupHasNo);
         } else {
-            self.look_at_keys(node, part, name, deed.keys);
+            self.look_at_keys(node, part, name, form.keys);
         }
     }
 
@@ -280,8 +280,8 @@ impl<'t> Search<'t> {
         }
         match node.get("do") {
             None => self.fails(node, part, What::MissingWord),
-            Some(word) => match deed_at(word, part) {
-                Some(deed) => self.look_at_deed(node, word, part, deed),
+            Some(word) => match act_at(word, part) {
+                Some(form) => self.look_at_form(node, word, part, form),
                 None => self.fails(word, part, What::Other),
             },
         }

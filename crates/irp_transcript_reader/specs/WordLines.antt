@@ -6,10 +6,10 @@ use Rattle.serde_json.specs.Data.{Data, string}
 use Rattle.serde_json.specs.Find.{get, as_str}
 use Rattle.irp_forms.specs.Parts.{◌>>=◌, has_keys, u32_at, u64_at}
 use Rattle.irp_forms.specs.Fields.{field}
-use Rattle.irp_forms.specs.Steps.{Key, act_named, keys_of, slot_key}
+use Rattle.irp_forms.specs.Steps.{ActKey, act_named, keys_of, slot_key}
 use Rattle.irp_forms.specs.Told.{hand_of, lock_act_of, told_at}
-use Rattle.irp_forms.specs.declared.step_names.Act.{Act as Step}
-use Rattle.irp_forms.specs.declared.step_names.Act.TheVariants as word
+use Rattle.irp_forms.specs.declared.step_names.ActKind.{ActKind}
+use Rattle.irp_forms.specs.declared.step_names.ActKind.TheVariants as kind
 use Rattle.irp_forms.specs.declared.told.Told.{Told}
 use Rattle.irp_forms.specs.declared.told.Told.TheVariants as told
 use Rattle.irp_types.specs.declared.names.IrpRef.{IrpRef}
@@ -54,36 +54,36 @@ unfoldable pub word_reply_at : Data → Option WordReply
 word_reply_at (string name) = word_reply_named name
 word_reply_at form = valued_reply_at form
 
--- the keys of a step in a word line, but for those that every word line has: those in a script, but for two steps
-abbrev pub line_keys : Step → List Key
-line_keys word.Publish = slot_key ∷ []
-line_keys word.FinishTaken = slot_key ∷ []
+-- the keys of an act in a word line, but for those that every word line has: those in a script, but for two acts
+abbrev pub line_keys : ActKind → List ActKey
+line_keys kind.Publish = slot_key ∷ []
+line_keys kind.FinishTaken = slot_key ∷ []
 line_keys other = keys_of other
 
 -- the keys that every word line has
 abbrev pub beside : List (List ℕ)
 beside = codes "do" ∷ codes "reply" ∷ codes "seat" ∷ codes "step" ∷ []
 
--- the cancel slot that stands alone under the keys of a step
+-- the cancel slot that stands alone under the keys of an act
 abbrev pub slot_of : List (Told IrpRef) → Option ℕ
 slot_of (told.Number slot ∷ []) = Some slot
 slot_of other = None
 
 -- what a step did, by what stands under its keys
-unfoldable pub act_of : Step → List (Told IrpRef) → Option Act
-act_of word.Hand told = option_map acts.Hand (hand_of told)
-act_of word.Publish told = option_map (λ slot. acts.OnSlot (Publish slot)) (slot_of told)
-act_of word.Withdraw told = option_map (λ slot. acts.OnSlot (Withdraw slot)) (slot_of told)
-act_of word.Request told = option_map (λ slot. acts.OnSlot (Request slot)) (slot_of told)
-act_of word.FinishTaken told = option_map acts.FinishTaken (slot_of told)
+unfoldable pub act_of : ActKind → List (Told IrpRef) → Option Act
+act_of kind.Hand told = option_map acts.Hand (hand_of told)
+act_of kind.Publish told = option_map (λ slot. acts.OnSlot (Publish slot)) (slot_of told)
+act_of kind.Withdraw told = option_map (λ slot. acts.OnSlot (Withdraw slot)) (slot_of told)
+act_of kind.Request told = option_map (λ slot. acts.OnSlot (Request slot)) (slot_of told)
+act_of kind.FinishTaken told = option_map acts.FinishTaken (slot_of told)
 act_of other told = option_map acts.OnLock (lock_act_of other told)
 
 -- what a step did, by the name under `do`
 unfoldable pub act_at : Data → Option Act
 act_at form = do
-  step ← get (codes "do") form >>= as_str >>= act_named
-  told ← told_at (line_keys step) beside None form
-  act_of step told
+  kind ← get (codes "do") form >>= as_str >>= act_named
+  told ← told_at (line_keys kind) beside None form
+  act_of kind told
 
 -- a word line: what the step did, what it was answered, its seat and its place
 unfoldable pub word_line_at : Data → Option WordLine

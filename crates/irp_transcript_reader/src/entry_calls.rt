@@ -5,7 +5,7 @@ ghost use Rattle.serde_json.specs.View.{view};
 ghost use Rattle.irp_forms.specs.Steps.{keys_named};
 ghost use Rattle.irp_transcript_reader.specs.Calls as spec;
 
-use irp_forms::{Act, Part, StepKey, Told, call_of, told_at, under};
+use irp_forms::{ActKey, ActKind, Part, Told, call_of, told_at, under};
 use irp_types::{Call, IrpRef, LockNo};
 use serde_json::Value;
 
@@ -18,13 +18,13 @@ pub struct EntryCall {
 }
 
 /// The keys of an act in an entry, but for `do` and for what only a delete has: those of a step, but for two acts.
-fn entry_keys(act: Act) -> &'static [StepKey]
+fn entry_keys(act: ActKind) -> &'static [ActKey]
     ensures keys { keys_named result.now ≡ spec.entry_keys act }
     ensures few { length result.now ≤ 4 }
 {
     match act {
-        Act::Allocate => &[("size", Part::Size)],
-        Act::FinishTaken => &[
+        ActKind::Allocate => &[("size", Part::Size)],
+        ActKind::FinishTaken => &[
             ("irp", Part::Packet),
             ("token", Part::Token),
             ("status", Part::Status),
@@ -35,12 +35,12 @@ fn entry_keys(act: Act) -> &'static [StepKey]
 }
 
 /// The call that an act is, by what stands under its keys in an entry.
-fn entry_call_of(act: Act, told: &[Told<IrpRef>]) -> Option<Call>
+fn entry_call_of(act: ActKind, told: &[Told<IrpRef>]) -> Option<Call>
     ensures { result ≡ spec.entry_call_of act told.now }
 {
     match (act, told) {
         (
-            Act::FinishTaken,
+            ActKind::FinishTaken,
             &[
                 Told::Packet(irp),
                 Told::Long(token),
@@ -63,8 +63,8 @@ fn entry_call_of(act: Act, told: &[Told<IrpRef>]) -> Option<Call>
 pub fn entry_call_at(value: &Value) -> Option<EntryCall>
     ensures { result ≡ spec.entry_call_at (view value.now) }
 {
-    let act = Act::named(value.get("do").and_then(Value::as_str)?)?;
-    let is_delete = act == Act::Delete;
+    let act = ActKind::named(value.get("do").and_then(Value::as_str)?)?;
+    let is_delete = act == ActKind::Delete;
     let beside: &[&str] = if is_delete {
         &["do", "drained", "lock"]
     } else {

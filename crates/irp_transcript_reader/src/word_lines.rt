@@ -5,7 +5,7 @@ ghost use Rattle.serde_json.specs.View.{view};
 ghost use Rattle.irp_forms.specs.Steps.{keys_named};
 ghost use Rattle.irp_transcript_reader.specs.WordLines as spec;
 
-use irp_forms::{Act as Step, Part, StepKey, Told, hand_of, has_keys, lock_act_of, told_at, under};
+use irp_forms::{ActKey, ActKind, Part, Told, hand_of, has_keys, lock_act_of, told_at, under};
 use irp_transcript::{Act, WordLine, WordReply};
 use irp_types::{IrpRef, SlotAct};
 use serde_json::Value;
@@ -66,18 +66,18 @@ fn word_reply_at(value: &Value) -> Option<WordReply>
     }
 }
 
-/// The keys of a step in a word line, but for those that every word line has: those in a script, but for two steps.
-fn line_keys(step: Step) -> &'static [StepKey]
-    ensures keys { keys_named result.now ≡ spec.line_keys step }
+/// The keys of an act in a word line, but for those that every word line has: those in a script, but for two acts.
+fn line_keys(kind: ActKind) -> &'static [ActKey]
+    ensures keys { keys_named result.now ≡ spec.line_keys kind }
     ensures few { length result.now ≤ 4 }
 {
-    match step {
-        Step::Publish | Step::FinishTaken => &[("slot", Part::Slot)],
-        _ => step.keys(),
+    match kind {
+        ActKind::Publish | ActKind::FinishTaken => &[("slot", Part::Slot)],
+        _ => kind.keys(),
     }
 }
 
-/// The cancel slot that stands alone under the keys of a step.
+/// The cancel slot that stands alone under the keys of an act.
 fn slot_of(told: &[Told<IrpRef>]) -> Option<u32>
     ensures { result ≡ spec.slot_of told.now }
 {
@@ -89,16 +89,16 @@ fn slot_of(told: &[Told<IrpRef>]) -> Option<u32>
 
 /// What a step did, by what stands under its keys in a word line.
 #[tactic(auto, unfolding(crate::specs::WordLines::act_of))]
-fn act_of(step: Step, told: &[Told<IrpRef>]) -> Option<Act>
-    ensures { result ≡ spec.act_of step told.now }
+fn act_of(kind: ActKind, told: &[Told<IrpRef>]) -> Option<Act>
+    ensures { result ≡ spec.act_of kind told.now }
 {
-    match step {
-        Step::Hand => hand_of(told).map(Act::Hand),
-        Step::Publish => slot_of(told).map(|slot| Act::OnSlot(SlotAct::Publish { slot })),
-        Step::Withdraw => slot_of(told).map(|slot| Act::OnSlot(SlotAct::Withdraw { slot })),
-        Step::Request => slot_of(told).map(|slot| Act::OnSlot(SlotAct::Request { slot })),
-        Step::FinishTaken => slot_of(told).map(|slot| Act::FinishTaken { slot }),
-        _ => lock_act_of(step, told).map(Act::OnLock),
+    match kind {
+        ActKind::Hand => hand_of(told).map(Act::Hand),
+        ActKind::Publish => slot_of(told).map(|slot| Act::OnSlot(SlotAct::Publish { slot })),
+        ActKind::Withdraw => slot_of(told).map(|slot| Act::OnSlot(SlotAct::Withdraw { slot })),
+        ActKind::Request => slot_of(told).map(|slot| Act::OnSlot(SlotAct::Request { slot })),
+        ActKind::FinishTaken => slot_of(told).map(|slot| Act::FinishTaken { slot }),
+        _ => lock_act_of(kind, told).map(Act::OnLock),
     }
 }
 
@@ -107,14 +107,14 @@ fn act_of(step: Step, told: &[Told<IrpRef>]) -> Option<Act>
 fn act_at(value: &Value) -> Option<Act>
     ensures { result ≡ spec.act_at (view value.now) }
 {
-    let step = Step::named(value.get("do").and_then(Value::as_str)?)?;
+    let kind = ActKind::named(value.get("do").and_then(Value::as_str)?)?;
     let told = told_at(
-        line_keys(step),
+        line_keys(kind),
         &["do", "reply", "seat", "step"],
         None,
         value,
     )?;
-    act_of(step, told.as_slice())
+    act_of(kind, told.as_slice())
 }
 
 /// A word line: what the step did, what it was answered, its seat and its place.

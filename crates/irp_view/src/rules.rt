@@ -6,7 +6,7 @@ ghost use Rattle.irp_view.specs.Sections.{section_of, section_of_part};
 use crate::answers::broken_rule;
 use crate::fields::put_field_rule;
 use crate::sections::Section;
-use irp_forms::act_of;
+use irp_forms::kind_of;
 use irp_judge::{Difference, QuestionPart, Wrong};
 use irp_names::refusal_name;
 use irp_transcript::Header;
@@ -38,12 +38,12 @@ fn reply_rule(call: Call) -> Rule {
         Call::Cancel { .. } => Section::Cancelling,
         _ => Section::Calls,
     };
-    (act_of(call).answer(), section)
+    (kind_of(call).answer(), section)
 }
 
 /// Puts the checks of a call, and which of them fails first. The one error is want of memory.
 fn put_checks(words: &mut String, call: Call, reply: Reply) -> Result<(), AllocError> {
-    let act = act_of(call);
+    let act = kind_of(call);
     let (which, name) = match reply {
         Reply::Refused(refusal) => ("the first that fails is ", refusal_name(refusal)),
         _ => ("none fails", ""),

@@ -4,7 +4,7 @@ ghost use Rattle.irp_words.specs.Telling.{PrintsWhole};
 
 use crate::ending::Ending;
 use crate::telling::send_text;
-use irp_forms::{Act, HasName};
+use irp_forms::{ActKind, HasName};
 use irp_names::{
     PlanKind, Sink, major_name, minor_name, mistake_name, refusal_meaning, rule_names, status_names,
 };
@@ -14,12 +14,12 @@ use irp_types::limits::LAST_MAJOR;
 use std::alloc::{AllocError, Global};
 
 /// The steps for whose calls a refusal may have a name in Windows.
-static REFUSED: [Act; 5] = [
-    Act::Delete,
-    Act::Reuse,
-    Act::CallDriver,
-    Act::Complete,
-    Act::FinishTaken,
+static REFUSED: [ActKind; 5] = [
+    ActKind::Delete,
+    ActKind::Reuse,
+    ActKind::CallDriver,
+    ActKind::Complete,
+    ActKind::FinishTaken,
 ];
 
 /// A text of JSON that is made.
@@ -82,7 +82,7 @@ impl Json {
 }
 
 /// A step: its word, its names in Windows and in docs/RULES.md, and its keys.
-fn put_act(json: &mut Json, act: Act) {
+fn put_act(json: &mut Json, act: ActKind) {
     json.next();
     json.member("{", "word", act.word());
     json.member(",", "windows", act.windows_name());
@@ -100,7 +100,7 @@ fn put_act(json: &mut Json, act: Act) {
 /// All steps.
 fn put_acts(json: &mut Json) {
     for place in 0..=usize::MAX {
-        let Some(act) = Act::at(place) else {
+        let Some(act) = ActKind::at(place) else {
             return;
         };
         put_act(json, act);
