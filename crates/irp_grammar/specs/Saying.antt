@@ -23,7 +23,7 @@ use Rattle.irp_script_reader.specs.declared.script.{ScriptForm.ScriptForm, Scrip
 use Rattle.irp_script_reader.specs.declared.script.ScriptForm.TheVariants as forms
 use Rattle.irp_names.specs.declared.plan_kinds.PlanKind.TheVariants as kind
 use Rattle.irp_forms.specs.declared.step_names.ActKind.{ActKind}
-use Rattle.irp_forms.specs.declared.step_names.ActKind.TheVariants as kind
+use Rattle.irp_forms.specs.declared.step_names.ActKind.TheVariants as act_kind
 use Rattle.irp_grammar.specs.declared.step_line.{PlanLine.PlanLine, StepLine.StepLine, Value.Value}
 use Rattle.irp_grammar.specs.declared.step_line.Value.TheVariants as value
 use Rattle.irp_grammar.specs.declared.{cursor.WordsFault.WordsFault, law.Told.Told, law.Untold.Untold, said.Said.Said}
@@ -73,47 +73,47 @@ six its = take 6 (its ++ none)
 -- what a call is said as: its word, and the values of its keys, in their order. No script has a call that allocates: what
 -- it allocates has a label.
 abbrev pub call_said : Call Named ℕ → ActKind × List Value
-call_said (call.CreateDevice driver lock) = (kind.CreateDevice, six (value.Number driver.0 ∷ value.Number lock.0 ∷ []))
-call_said (call.Attach device to) = (kind.Attach, six (value.Number device.0 ∷ value.Number to.0 ∷ []))
-call_said (call.Detach lower) = (kind.Detach, six (value.Number lower.0 ∷ []))
-call_said (call.Delete device) = (kind.Delete, six (value.Number device.0 ∷ []))
-call_said (call.Free irp) = (kind.Free, six (value.Packet irp ∷ []))
-call_said (call.Cancel irp) = (kind.Cancel, six (value.Packet irp ∷ []))
-call_said (call.Look irp) = (kind.Look, six (value.Packet irp ∷ []))
-call_said (call.Reuse irp status) = (kind.Reuse, six (value.Packet irp ∷ value.Number status.0 ∷ []))
+call_said (call.CreateDevice driver lock) = (act_kind.CreateDevice, six (value.Number driver.0 ∷ value.Number lock.0 ∷ []))
+call_said (call.Attach device to) = (act_kind.Attach, six (value.Number device.0 ∷ value.Number to.0 ∷ []))
+call_said (call.Detach lower) = (act_kind.Detach, six (value.Number lower.0 ∷ []))
+call_said (call.Delete device) = (act_kind.Delete, six (value.Number device.0 ∷ []))
+call_said (call.Free irp) = (act_kind.Free, six (value.Packet irp ∷ []))
+call_said (call.Cancel irp) = (act_kind.Cancel, six (value.Packet irp ∷ []))
+call_said (call.Look irp) = (act_kind.Look, six (value.Packet irp ∷ []))
+call_said (call.Reuse irp status) = (act_kind.Reuse, six (value.Packet irp ∷ value.Number status.0 ∷ []))
 call_said (call.FinishTaken irp slot status information) =
-    (kind.FinishTaken, six (value.Packet irp ∷ value.Number slot ∷ value.Number status.0 ∷ value.Number information ∷ []))
-call_said (call.Allocate size) = (kind.Allocate, six (value.Number size ∷ []))
+    (act_kind.FinishTaken, six (value.Packet irp ∷ value.Number slot ∷ value.Number status.0 ∷ value.Number information ∷ []))
+call_said (call.Allocate size) = (act_kind.Allocate, six (value.Number size ∷ []))
 call_said (call.SetNext by irp major its) =
-    (kind.SetNext, six (party_value by ∷ value.Packet irp ∷ value.Number major ∷ value.Number its ∷ []))
-call_said (call.CopyToNext by irp) = (kind.CopyToNext, six (party_value by ∷ value.Packet irp ∷ []))
-call_said (call.Skip by irp) = (kind.Skip, six (party_value by ∷ value.Packet irp ∷ []))
-call_said (call.MarkPending by irp) = (kind.MarkPending, six (party_value by ∷ value.Packet irp ∷ []))
+    (act_kind.SetNext, six (party_value by ∷ value.Packet irp ∷ value.Number major ∷ value.Number its ∷ []))
+call_said (call.CopyToNext by irp) = (act_kind.CopyToNext, six (party_value by ∷ value.Packet irp ∷ []))
+call_said (call.Skip by irp) = (act_kind.Skip, six (party_value by ∷ value.Packet irp ∷ []))
+call_said (call.MarkPending by irp) = (act_kind.MarkPending, six (party_value by ∷ value.Packet irp ∷ []))
 call_said (call.SetRoutine by irp setting) =
-    (kind.SetRoutine, six (party_value by ∷ value.Packet irp ∷ value.Set setting ∷ []))
+    (act_kind.SetRoutine, six (party_value by ∷ value.Packet irp ∷ value.Set setting ∷ []))
 call_said (call.CallDriver by irp target) =
-    (kind.CallDriver, six (party_value by ∷ value.Packet irp ∷ value.Number target.0 ∷ []))
+    (act_kind.CallDriver, six (party_value by ∷ value.Packet irp ∷ value.Number target.0 ∷ []))
 call_said (call.Complete by irp status information) =
-    (kind.Complete, six (party_value by ∷ value.Packet irp ∷ value.Number status.0 ∷ value.Number information ∷ []))
+    (act_kind.Complete, six (party_value by ∷ value.Packet irp ∷ value.Number status.0 ∷ value.Number information ∷ []))
 call_said (call.SetCancelRoutine by irp cancel) =
-    (kind.SetCancelRoutine, six (party_value by ∷ value.Packet irp ∷ cancel_value cancel ∷ []))
+    (act_kind.SetCancelRoutine, six (party_value by ∷ value.Packet irp ∷ cancel_value cancel ∷ []))
 
 -- what an act on a remove lock is said as
 abbrev pub lock_act_said : LockAct → ActKind × List Value
-lock_act_said (lock_act.Acquire lock tag) = (kind.Acquire, six (value.Number lock.0 ∷ value.Number tag ∷ []))
-lock_act_said (lock_act.Release lock tag) = (kind.Release, six (value.Number lock.0 ∷ value.Number tag ∷ []))
-lock_act_said (lock_act.BeginRemove lock tag) = (kind.BeginRemove, six (value.Number lock.0 ∷ value.Number tag ∷ []))
-lock_act_said (lock_act.Drained lock) = (kind.Drained, six (value.Number lock.0 ∷ []))
+lock_act_said (lock_act.Acquire lock tag) = (act_kind.Acquire, six (value.Number lock.0 ∷ value.Number tag ∷ []))
+lock_act_said (lock_act.Release lock tag) = (act_kind.Release, six (value.Number lock.0 ∷ value.Number tag ∷ []))
+lock_act_said (lock_act.BeginRemove lock tag) = (act_kind.BeginRemove, six (value.Number lock.0 ∷ value.Number tag ∷ []))
+lock_act_said (lock_act.Drained lock) = (act_kind.Drained, six (value.Number lock.0 ∷ []))
 
 -- what a step is said as
 abbrev pub act_said : StepAct → ActKind × List Value
 act_said (does.Call made) = call_said made
-act_said (does.Allocate size label) = (kind.Allocate, six (value.Number size ∷ value.Packet (named.Label label) ∷ []))
+act_said (does.Allocate size label) = (act_kind.Allocate, six (value.Number size ∷ value.Packet (named.Label label) ∷ []))
 act_said (does.OnLock on) = lock_act_said on
-act_said (does.Hand hand) = (kind.Hand, six (value.Number hand.lock.0 ∷ value.Number hand.tag ∷ value.Number hand.to ∷ []))
-act_said (does.Publish slot irp) = (kind.Publish, six (value.Number slot ∷ value.Packet irp ∷ []))
-act_said (does.Withdraw slot) = (kind.Withdraw, six (value.Number slot ∷ []))
-act_said (does.Request slot) = (kind.Request, six (value.Number slot ∷ []))
+act_said (does.Hand hand) = (act_kind.Hand, six (value.Number hand.lock.0 ∷ value.Number hand.tag ∷ value.Number hand.to ∷ []))
+act_said (does.Publish slot irp) = (act_kind.Publish, six (value.Number slot ∷ value.Packet irp ∷ []))
+act_said (does.Withdraw slot) = (act_kind.Withdraw, six (value.Number slot ∷ []))
+act_said (does.Request slot) = (act_kind.Request, six (value.Number slot ∷ []))
 
 -- the line of a step
 abbrev pub line_of : Step → StepLine
