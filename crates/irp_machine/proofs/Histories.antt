@@ -75,7 +75,7 @@ module _ (rules : RulesValue) (standing new : StandingValue) (seat : ℕ) (plann
         undrained = undrained (knows_of (seat_at standing seat).learned) applied.lock applied.drained (called.noted ∙ ap (known_by (knows_of (seat_at standing seat).learned)) (sym own.lock));
         step = subst (λ (asked : List Asked). Step rules.fixed standing.manager.state applied.drained calling.call asked applied.reply new.manager.state) (sym questions) called.step;
       } in (
-        (call_acted, (entry, record { caller = refl; call = refl; asked = questions; reply = refl; lock = own.lock; drained = refl }, grown)),
+        (call_acted, (entry, number_is, record { caller = refl; call = refl; asked = questions; reply = refl; lock = own.lock; drained = refl }, grown)),
         leads_more goes_on rules.fixed old entries standing.manager.state new.manager.state entry leads at grown,
       )
 
@@ -233,7 +233,7 @@ module _ (goes_on : HistoryGoesOn) (rules : RulesValue) where
         step = one.call.step;
       } in (
         entries ++ entry ∷ [],
-        (entry, record { caller = refl; call = refl; asked = refl; reply = refl; lock = refl; drained = refl }, refl),
+        (entry, refl, record { caller = refl; call = refl; asked = refl; reply = refl; lock = refl; drained = refl }, refl),
         goes_on rules.fixed entries standing.manager.state entry one.after.state leads at,
       )
 

@@ -13,3 +13,4 @@ pub mod Sorting
 pub mod Stuck
 pub mod Untold
 pub mod RunsOn
+pub mod RunsSettled

@@ -1,5 +1,5 @@
 -- Orders made again, and recorded.
-use Rattle.std.specs.Prelude.{ℕ, zero, suc, ◌≡◌, Bool, false, true, List, [], ◌∷◌, ◌++◌, filter_map, Option, Some, None, slice_get, slice_index_or}
+use Rattle.std.specs.Prelude.{ℕ, zero, suc, ◌≡◌, Bool, false, true, List, [], ◌∷◌, ◌++◌, filter_map, length, Option, Some, None, slice_get, slice_index_or}
 use Rattle.std.specs.Option.{option_map, option_and_then}
 use Rattle.irp_types.specs.declared.call.Call.TheVariants.{FinishTaken}
 use Rattle.irp_types.specs.declared.entry.Entry.{Entry}
@@ -47,13 +47,15 @@ pub record TellsCall (rules : RulesValue) (standing : StandingValue) (seat : ℕ
   pub lock : entry.lock ≡ lock_of standing.manager.state calling.call
   pub drained : entry.drained ≡ made.drained
 
--- what is recorded of a step: of a call its entry, behind the others; of any other step nothing
+-- what is recorded of a step: of a call its entry, behind the others and with its place there as its number; of any
+-- other step nothing
 abbrev pub Records :
     (rules : RulesValue) (standing : StandingValue) (seat : ℕ) (planned : Planned) (next : Next) (change : Change)
     → IsNext rules standing seat planned next change → List Entry → List Entry → Type 0
 Records rules standing seat planned (Changes one) change is old new = new ≡ old
 Records rules standing seat planned (Calls calling) change made old new =
-    (entry : Entry) × TellsCall rules standing seat planned calling change made entry × (new ≡ old ++ entry ∷ [])
+    (entry : Entry) × (entry.number ≡ length old) × TellsCall rules standing seat planned calling change made entry
+    × (new ≡ old ++ entry ∷ [])
 
 -- the next step of a seat was made, in this act, and recorded; and this is where the seat is behind it
 abbrev pub PlaysSo :

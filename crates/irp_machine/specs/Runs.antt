@@ -47,3 +47,9 @@ RunsOn old seat (Some planned) after new =
     (behind : After) × (after ≡ Some behind)
     × PlaysSo old.rules old.standing old.entries seat planned new.standing new.entries behind
     × (new ≡ record old { standing = new.standing; entries = new.entries })
+
+-- what is made in an act, and where the seat is behind it, is one
+abbrev pub RunsAreSettled : Type 0
+RunsAreSettled =
+    (old one two : RunValue) (seat : ℕ) (act : Option Planned) (after other : Option After)
+    → RunsOn old seat act after one → RunsOn old seat act other two → (after ≡ other) × (one ≡ two)

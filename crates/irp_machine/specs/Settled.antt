@@ -66,12 +66,12 @@ told_replies fixed script (Cancel id shown answer ∷ others) told =
     (told.0.told, told_replies fixed script others told.1)
 
 module _ (fixed : Fixed) (script : ScriptParts) (kept : Bool) where
-  -- a call has one answer
+  -- a call has one answer, and one list of questions
   pub called_settled : (knows : LockNo → Bool) (old : ManagerValue) (call : Call) (drained known : Bool)
       (reply other : Reply) (new another : ManagerValue)
-      → IsCalled fixed script kept knows old call drained reply new
-      → IsCalled fixed script kept knows old call known other another
-      → (drained ≡ known) × (reply ≡ other) × (new ≡ another)
+      → (one : IsCalled fixed script kept knows old call drained reply new)
+      → (two : IsCalled fixed script kept knows old call known other another)
+      → (drained ≡ known) × (one.asked ≡ two.asked) × (reply ≡ other) × (new ≡ another)
   called_settled knows old call drained known reply other new another one two =
       let same : drained ≡ known = one.noted ∙ sym two.noted in
       let step : Step fixed old.state known call one.asked reply new.state =
@@ -86,6 +86,7 @@ module _ (fixed : Fixed) (script : ScriptParts) (kept : Bool) where
       let freed : new.freed ≡ another.freed =
       one.freed ∙ ap (λ (reply : Reply). freed_if kept call reply old.freed) all.1 ∙ sym two.freed in (
         same,
+        all.0,
         all.1,
         ap (λ (state : StateValue). record new { state = state }) all.2
             ∙ ap (λ (freed : List ℕ). record another { freed = freed }) freed,
@@ -101,9 +102,9 @@ module _ (rules : RulesValue) (standing : StandingValue) where
       let same =
       called_settled rules.fixed rules.script (allocates rules.acts) (knows_of (seat_at standing seat).learned) standing.manager calling.call
       one.drained two.drained one.reply two.reply one.after two.after one.call two.call in
-      (one.changes ∙ ap (λ (reply : Reply). called planned calling reply) same.1 ∙ sym two.changes, same.2)
+      (one.changes ∙ ap (λ (reply : Reply). called planned calling reply) same.2 ∙ sym two.changes, same.3)
 
-  next_settled : (seat : ℕ) (planned : Planned) (next : Next) (change other : Change)
+  pub next_settled : (seat : ℕ) (planned : Planned) (next : Next) (change other : Change)
       → (one : IsNext rules standing seat planned next change) → (two : IsNext rules standing seat planned next other)
       → (change ≡ other)
       × (manager_behind rules standing seat planned next change one ≡ manager_behind rules standing seat planned next other two)
@@ -111,7 +112,7 @@ module _ (rules : RulesValue) (standing : StandingValue) where
   next_settled seat planned (Calls calling) change other one two =
       call_settled seat planned calling change other one two
 
-  makes_settled : (seat : ℕ) (planned : Planned) (next : Next) (new another : StandingValue)
+  pub makes_settled : (seat : ℕ) (planned : Planned) (next : Next) (new another : StandingValue)
       → Makes rules standing seat planned next new → Makes rules standing seat planned next another → new ≡ another
   makes_settled seat planned next new another one two =
       let same = next_settled seat planned next one.0 two.0 one.1 two.1 in

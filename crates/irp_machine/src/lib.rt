@@ -30,7 +30,7 @@ pub use header::header_of;
 pub use irp_plain::{After, Answered, Told};
 pub use limits::{Compared, Limits, NotFound, NotMade};
 pub use live_end::{DeviceEnd, LiveEnd};
-pub use order_laws::{orders_have_histories, paths_can_be_made, replays_end_so};
+pub use order_laws::{orders_have_histories, paths_can_be_made, replays_end_so, runs_are_settled};
 pub use outcome::{End, Holder, LockEnd, Outcome, Replies, SlotEnd};
 pub use replaying::replay;
 pub use running::Run;

@@ -1,6 +1,7 @@
 //! Laws of orders. Each is the contract of a function that does nothing.
 
 ghost use Rattle.irp_machine.specs.Replays.{OrdersHaveHistories, PathsCanBeMade, ReplaysEndSo};
+ghost use Rattle.irp_machine.specs.Runs.{RunsAreSettled};
 
 use irp_types::history_goes_on;
 
@@ -20,4 +21,9 @@ pub fn replays_end_so()
 /// The path of an outcome can be made again: `replay` never answers `NoStep` to it.
 pub fn paths_can_be_made()
     ensures { PathsCanBeMade }
+{}
+
+/// What `Run::play` makes of a run, and where it tells the seat to be behind that, is one.
+pub fn runs_are_settled()
+    ensures { RunsAreSettled }
 {}
