@@ -1,3 +1,4 @@
-pub mod Adding
+pub mod Above
 pub mod Chosen
+pub mod Indenting
 pub mod Worded

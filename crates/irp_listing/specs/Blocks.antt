@@ -1,28 +1,47 @@
 -- Which lines stand for which entries.
-use Rattle.std.specs.Prelude.{ℕ, Bool, ◌≡◌, ◌*◌, ◌+◌, List, ◌++◌, length, if◌then◌else◌}
-use Rattle.std.specs.List.{flat_map}
+use Rattle.std.specs.Prelude.{ℕ, Bool, ◌≡◌, ◌+◌, List, [], ◌++◌, codes, Option, if◌then◌else◌}
+use Rattle.std.specs.List.{flat_map, repeat}
+use Rattle.irp_types.specs.Questions.{shown_of}
+use Rattle.irp_types.specs.declared.asked.Asked.{Asked}
 use Rattle.irp_types.specs.declared.entry.Entry.{Entry}
+use Rattle.irp_types.specs.declared.names.DeviceId.{DeviceId}
+use Rattle.irp_names.specs.Closures.{answered_text}
 use Rattle.irp_listing.specs.Heads.{head_text, moves}
 use Rattle.irp_listing.specs.Lines.{head_of, further_of}
+use Rattle.irp_listing.specs.Outcomes.{outcome_of, outcome_text}
+use Rattle.irp_listing.specs.Questions.{question_text}
+use Rattle.irp_listing.specs.Stacks.{depth_of}
 
--- so many further lines were put behind what stood there
-pub record AddsLines (count : ℕ) (before after : List ℕ) : Type 0 where
-  pub lines : List (List ℕ)
-  pub many : length lines ≡ count
-  pub put : after ≡ before ++ flat_map further_of lines
+-- a further line, behind so many steps of two spaces
+abbrev pub indented : ℕ → List ℕ → List ℕ
+indented steps words = further_of (repeat steps (codes "  ") ++ words)
 
--- how many tell where the packet is: one after a call that moved it, and else none
-abbrev pub end_lines : Entry → ℕ
-end_lines entry = if moves entry entry.reply then 1 else 0
+-- the two lines of a question: what was asked, and two steps further in what was answered
+abbrev pub question_lines : List (Option DeviceId) → Asked → List ℕ
+question_lines above question =
+    let depth = depth_of above (shown_of question).device in
+    indented depth (question_text question) ++ indented (depth + 2) (answered_text question)
 
--- the block of an entry: a line with its number, the call and the reply, and perhaps the seat; two further lines for each
--- question, and one behind a call that moved its packet
+-- the line that tells where the packet is, behind a call that moved it
+abbrev pub outcome_line : Entry → List ℕ
+outcome_line entry =
+    if moves entry entry.reply
+    then indented 1 (outcome_text (outcome_of entry.call entry.asked) entry.call entry.reply)
+    else []
+
+-- the block of an entry: a line with its number, the call and the reply, and perhaps the seat; two lines for each
+-- question, in order; and the line that tells where the packet is
+abbrev pub block_of : Bool → Bool → List (Option DeviceId) → Entry → List ℕ
+block_of tells_seat is_left_out above entry =
+    head_of entry.number (head_text tells_seat is_left_out entry)
+    ++ (flat_map (question_lines above) entry.asked ++ outcome_line entry)
+
+-- a text is the block of an entry, where seats are told or not, and for some device just above each
 pub record IsBlock (entry : Entry) (block : List ℕ) : Type 0 where
   pub tells_seat : Bool
   pub is_left_out : Bool
-  pub lines : List (List ℕ)
-  pub many : length lines ≡ length entry.asked * 2 + end_lines entry
-  pub whole : block ≡ head_of entry.number (head_text tells_seat is_left_out entry) ++ flat_map further_of lines
+  pub above : List (Option DeviceId)
+  pub whole : block ≡ block_of tells_seat is_left_out above entry
 
 -- the block of this entry was put behind what stood there
 pub record AddsBlock (entry : Entry) (before after : List ℕ) : Type 0 where

@@ -3,4 +3,7 @@ pub mod Choosing
 pub mod Heads
 pub mod Lines
 pub mod Listing
+pub mod Outcomes
+pub mod Questions
+pub mod Stacks
 pub mod WordLines

@@ -1,7 +1,8 @@
 //! The lines of an entry.
 
-ghost use Rattle.std.specs.Prelude.{length, OnOk, ◌*◌, Some};
-ghost use Rattle.irp_listing.specs.Blocks.{AddsLines, AddsBlock, end_lines};
+ghost use Rattle.std.specs.Prelude.{◌≡◌, ◌++◌, codes, string_bytes, IfSome, OnOk, Some};
+ghost use Rattle.std.specs.List.{flat_map, repeat};
+ghost use Rattle.irp_listing.specs.Blocks.{AddsBlock, indented, outcome_line, question_lines};
 ghost use Rattle.irp_listing.specs.Heads.{answer_text, caller_text, head_text, refused_text, seat_text};
 
 use crate::lines::{put_further, put_head};
@@ -145,9 +146,11 @@ impl fmt::Display for CallerWords {
 }
 
 /// Puts as many steps of indentation into the words, in place of what they were. The one error is want of memory.
-fn indent(words: &mut String, steps: usize) -> Result<(), AllocError> {
+fn indent(words: &mut String, steps: usize) -> Result<(), AllocError>
+    ensures { OnOk result (string_bytes words.new ≡ repeat steps (codes "  ")) }
+{
     words.clear();
-    for _ in 0..steps {
+    for _step in 0..steps {
         words.push_str("  ")?;
     }
     Ok(())
@@ -160,7 +163,8 @@ pub(crate) fn put_shown<D: fmt::Display + Copy>(
     steps: usize,
     shown: D,
 ) -> Result<(), AllocError>
-    ensures { OnOk result (AddsLines 1 out.old.items out.new.items) }
+    ensures { OnOk result (IfSome (D.output shown)
+        (λ text. out.new.items ≡ out.old.items ++ indented steps text)) }
 {
     indent(words, steps)?;
     write!(words, "{}", shown)?;
@@ -175,12 +179,10 @@ fn put_question(
     stacks: &Stacks,
     question: Asked,
 ) -> Result<(), AllocError>
-    ensures { OnOk result (AddsLines 2 out.old.items out.new.items) }
+    ensures { OnOk result
+        (out.new.items ≡ out.old.items ++ question_lines stacks.now.above question) }
 {
-    let depth = match question.shown().device {
-        Some(device) => stacks.count_above(device) + 1,
-        None => 0,
-    };
+    let depth = stacks.depth_of(question.shown().device);
     put_shown(out, words, depth, QuestionWords(question))?;
     put_shown(out, words, depth + 2, AnsweredWords(question))
 }
@@ -192,7 +194,8 @@ fn put_questions(
     stacks: &Stacks,
     questions: &[Asked],
 ) -> Result<(), AllocError>
-    ensures { OnOk result (AddsLines (length questions.now * 2) out.old.items out.new.items) }
+    ensures { OnOk result (out.new.items
+        ≡ out.old.items ++ flat_map (question_lines stacks.now.above) questions.now) }
 {
     for question in questions {
         put_question(out, words, stacks, *question)?;
@@ -202,7 +205,7 @@ fn put_questions(
 
 /// Puts the line that tells where the packet is after a call that moved it. The one error is want of memory.
 fn put_outcome(out: &mut Vec<u8>, words: &mut String, entry: &Entry) -> Result<(), AllocError>
-    ensures { OnOk result (AddsLines (end_lines entry.now) out.old.items out.new.items) }
+    ensures { OnOk result (out.new.items ≡ out.old.items ++ outcome_line entry.now) }
 {
     if !moves(entry) {
         return Ok(());

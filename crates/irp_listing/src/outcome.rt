@@ -1,10 +1,13 @@
 //! Where a packet is after a call that moved it.
 
-ghost use Rattle.std.specs.Prelude.{◌≡◌};
+ghost use Rattle.std.specs.Prelude.{◌≡◌, Some};
 ghost use Rattle.irp_listing.specs.Heads.{moves, sends};
+ghost use Rattle.irp_listing.specs.Outcomes.{end_text, first_result, given_by, left_by, outcome_of, outcome_text, settled_by};
 
 use irp_names::{DeviceWords, ReplyWords, ResultWords};
-use irp_types::{Asked, Call, CancelAnswer, DeviceId, Entry, Plan, Reply, Status};
+use irp_types::{
+    Answer, Asked, Call, CancelAnswer, DeviceId, Entry, Plan, Replacement, Reply, Shown, Status,
+};
 use std::fmt;
 
 /// Where a packet is after a call that moved it, as its entry tells.
@@ -41,65 +44,115 @@ pub fn moves(entry: &Entry) -> bool
     }
 }
 
-/// What a packet is completed with before any routine is asked: what the call says, else what a driver without a
+/// What a packet is completed with where no answer gives anything: what the call says, or what a driver without a
 /// dispatch for the major gives.
-fn first_result(call: Call) -> (Status, u64) {
+fn first_result(call: Call) -> Replacement
+    ensures { result ≡ first_result call }
+{
     match call {
         Call::Complete {
             status,
             information,
             ..
-        } => (status, information),
+        } => Replacement {
+            status,
+            information,
+        },
         Call::FinishTaken {
             status,
             information,
             ..
-        } => (status, information),
-        _ => (Status::INVALID_DEVICE_REQUEST, 0),
+        } => Replacement {
+            status,
+            information,
+        },
+        _ => Replacement {
+            status: Status::INVALID_DEVICE_REQUEST,
+            information: 0,
+        },
     }
 }
 
-/// What a question leads to, where the packet had this status and information before.
-fn after(question: Asked, before: (Status, u64)) -> Outcome {
+/// What a completion routine leaves: what it sets, or what it was shown.
+fn left_by(shown: Shown, answer: Answer) -> Replacement
+    ensures { result ≡ left_by shown answer }
+{
+    match answer.replacement {
+        Some(put) => put,
+        None => Replacement {
+            status: shown.status,
+            information: shown.information,
+        },
+    }
+}
+
+/// The status and information that an answer gives the packet, if it does.
+fn given_by(question: Asked) -> Option<Replacement>
+    ensures { result ≡ given_by question }
+{
     match question {
-        Asked::Dispatch { shown, plan, .. } => match plan {
-            Plan::Hold { .. } | Plan::HoldSlot => Outcome::Held(shown.device),
-            Plan::Finish {
+        Asked::Dispatch {
+            plan: Plan::Finish {
                 status,
                 information,
-            } => Outcome::Completed(status, information),
-            _ => Outcome::Completed(before.0, before.1),
-        },
+            },
+            ..
+        } => Some(Replacement {
+            status,
+            information,
+        }),
+        Asked::Completion { shown, answer, .. } => Some(left_by(shown, answer)),
+        Asked::Cancel {
+            answer: CancelAnswer::Finish { information },
+            ..
+        } => Some(Replacement {
+            status: Status::CANCELLED,
+            information,
+        }),
+        _ => None,
+    }
+}
+
+/// Where an answer leaves the packet, if that settles it: a dispatch holds it, a completion routine keeps it, or a
+/// cancel routine leaves it with its device.
+fn settled_by(question: Asked) -> Option<Outcome>
+    ensures { result ≡ settled_by question }
+{
+    match question {
+        Asked::Dispatch {
+            shown,
+            plan: Plan::Hold { .. } | Plan::HoldSlot,
+            ..
+        } => Some(Outcome::Held(shown.device)),
         Asked::Completion { shown, answer, .. } => {
-            let (status, information) = match answer.replacement {
-                Some(put) => (put.status, put.information),
-                None => (shown.status, shown.information),
-            };
-            if answer.keep {
-                Outcome::Kept(shown.device, status, information)
-            } else {
-                Outcome::Completed(status, information)
+            if !answer.keep {
+                return None;
             }
+            let left = left_by(shown, answer);
+            Some(Outcome::Kept(shown.device, left.status, left.information))
         }
-        Asked::Cancel { answer, .. } => match answer {
-            CancelAnswer::Finish { information } => {
-                Outcome::Completed(Status::CANCELLED, information)
-            }
-            CancelAnswer::Leave => Outcome::Stays,
-        },
+        Asked::Cancel {
+            answer: CancelAnswer::Leave,
+            ..
+        } => Some(Outcome::Stays),
+        _ => None,
     }
 }
 
 /// Where the packet is after the call of this entry, on condition that the call moved it.
-pub fn outcome_of(entry: &Entry) -> Outcome {
-    let mut ended = first_result(entry.call);
+pub fn outcome_of(entry: &Entry) -> Outcome
+    ensures { result ≡ outcome_of entry.now.call entry.now.asked }
+{
+    let mut last = first_result(entry.call);
     for question in entry.asked.as_slice() {
-        match after(*question, ended) {
-            Outcome::Completed(status, information) => ended = (status, information),
-            settled => return settled,
+        if let Some(settled) = settled_by(*question) {
+            return settled;
+        }
+        if let Some(given) = given_by(*question) {
+            last = given;
         }
     }
-    Outcome::Completed(ended.0, ended.1)
+    Outcome::Completed(last.status, last.information)
 }
 
 /// Where a packet is after a call that moved it.
@@ -107,6 +160,8 @@ pub fn outcome_of(entry: &Entry) -> Outcome {
 pub struct EndWords(pub Outcome);
 
 impl fmt::Display for EndWords {
+    ghost output = { λ words. Some (end_text words.0) };
+
     fn fmt<W: fmt::Write>(&self, f: &mut fmt::Formatter<W>) -> fmt::Result {
         match self.0 {
             Outcome::Held(device) => write!(f, "{} holds the packet", DeviceWords(device)),
@@ -133,6 +188,8 @@ pub struct OutcomeWords {
 }
 
 impl fmt::Display for OutcomeWords {
+    ghost output = { λ words. Some (outcome_text words.outcome words.call words.reply) };
+
     fn fmt<W: fmt::Write>(&self, f: &mut fmt::Formatter<W>) -> fmt::Result {
         let OutcomeWords { call, reply, .. } = *self;
         let end = EndWords(self.outcome);

@@ -1,5 +1,8 @@
 //! Questions and what came of them, in words.
 
+ghost use Rattle.std.specs.Prelude.{◌≡◌, Some};
+ghost use Rattle.irp_listing.specs.Questions.{asked_text, asker_text, question_text, result_told, shown_text, to_completion, to_dispatch, way_of};
+
 use irp_names::{ClosureWords, MajorWords, ResultWords, told_if};
 use irp_types::{Asked, DeviceId, Shown, Status};
 use std::fmt;
@@ -10,13 +13,21 @@ use std::fmt;
 pub struct QuestionWords(pub Asked);
 
 impl fmt::Display for QuestionWords {
+    ghost output = { λ words. Some (question_text words.0) };
+
     fn fmt<W: fmt::Write>(&self, f: &mut fmt::Formatter<W>) -> fmt::Result {
-        let way = match self.0 {
-            Asked::Dispatch { .. } => "v",
-            Asked::Completion { .. } => "^",
-            Asked::Cancel { .. } => "!",
-        };
-        write!(f, "{} {}", way, AskedWords(self.0))
+        write!(f, "{} {}", way_of(self.0), AskedWords(self.0))
+    }
+}
+
+/// A mark for the way to a closure.
+fn way_of(question: Asked) -> &'static str
+    ensures { result.now ≡ way_of question }
+{
+    match question {
+        Asked::Dispatch { .. } => "v",
+        Asked::Completion { .. } => "^",
+        Asked::Cancel { .. } => "!",
     }
 }
 
@@ -25,6 +36,8 @@ impl fmt::Display for QuestionWords {
 pub struct AskedWords(pub Asked);
 
 impl fmt::Display for AskedWords {
+    ghost output = { λ words. Some (asked_text words.0) };
+
     fn fmt<W: fmt::Write>(&self, f: &mut fmt::Formatter<W>) -> fmt::Result {
         write!(
             f,
@@ -41,6 +54,8 @@ impl fmt::Display for AskedWords {
 struct Asker(Option<DeviceId>);
 
 impl fmt::Display for Asker {
+    ghost output = { λ words. Some (asker_text words.0) };
+
     fn fmt<W: fmt::Write>(&self, f: &mut fmt::Formatter<W>) -> fmt::Result {
         match self.0 {
             Some(device) => write!(f, "D{}", device.0),
@@ -54,6 +69,8 @@ impl fmt::Display for Asker {
 struct ShownWords(Asked);
 
 impl fmt::Display for ShownWords {
+    ghost output = { λ words. Some (shown_text words.0) };
+
     fn fmt<W: fmt::Write>(&self, f: &mut fmt::Formatter<W>) -> fmt::Result {
         match self.0 {
             Asked::Dispatch { shown, .. } => write!(f, "{}", ShownToDispatch(shown)),
@@ -73,11 +90,13 @@ impl fmt::Display for ShownWords {
 struct ShownToDispatch(Shown);
 
 impl fmt::Display for ShownToDispatch {
+    ghost output = { λ words. Some (to_dispatch words.0) };
+
     fn fmt<W: fmt::Write>(&self, f: &mut fmt::Formatter<W>) -> fmt::Result {
         let shown = self.0;
         write!(
             f,
-            ": {}, location {}, word {:#x}{}{}{}",
+            ": {}, location {}, word 0x{:x}{}{}{}",
             MajorWords(shown.major),
             shown.location,
             shown.word,
@@ -93,9 +112,11 @@ impl fmt::Display for ShownToDispatch {
 struct ResultTold(Status, u64);
 
 impl fmt::Display for ResultTold {
+    ghost output = { λ words. Some (result_told words.0 words.1) };
+
     fn fmt<W: fmt::Write>(&self, f: &mut fmt::Formatter<W>) -> fmt::Result {
-        if self.0 == Status::SUCCESS && self.1 == 0 {
-            Ok(())
+        if self.0.0 == 0 && self.1 == 0 {
+            f.write_str("")
         } else {
             write!(f, ", {}", ResultWords(self.0, self.1))
         }
@@ -107,11 +128,13 @@ impl fmt::Display for ResultTold {
 struct ShownToCompletion(Shown);
 
 impl fmt::Display for ShownToCompletion {
+    ghost output = { λ words. Some (to_completion words.0) };
+
     fn fmt<W: fmt::Write>(&self, f: &mut fmt::Formatter<W>) -> fmt::Result {
         let shown = self.0;
         write!(
             f,
-            " (location {}, context {:#x}): {}{}{}",
+            " (location {}, context 0x{:x}): {}{}{}",
             shown.location,
             shown.context,
             ResultWords(shown.status, shown.information),

@@ -1,6 +1,7 @@
 //! Which devices stand above which, and which of them found a cancel routine gone, as the entries so far tell.
 
-ghost use Rattle.std.specs.Prelude.{◌≤◌};
+ghost use Rattle.std.specs.Prelude.{◌≡◌, ◌≤◌};
+ghost use Rattle.irp_listing.specs.Stacks.{count_above, depth_of, just_above};
 
 use crate::leaving::{late_completion, taken_out};
 use irp_types::{Call, DeviceId, Entry, IrpRef, Reply};
@@ -62,17 +63,40 @@ impl Stacks {
         }
     }
 
+    /// The device just above this one, where one is known.
+    fn just_above(&self, device: DeviceId) -> Option<DeviceId>
+        ensures { result ≡ just_above self.now.above device }
+    {
+        match self.above.get(device.0 as usize) {
+            Some(above) => *above,
+            None => None,
+        }
+    }
+
     /// How many devices stand above this one, at most 64.
     pub fn count_above(&self, device: DeviceId) -> usize
-        ensures { result ≤ 64 }
+        ensures few { result ≤ 64 }
+        ensures exact { result ≡ count_above self.now.above 64 device }
     {
         let mut at = device;
         for count in 0..MOST_DEVICES {
-            match self.above.get(at.0 as usize) {
-                Some(Some(next)) => at = *next,
-                _ => return count,
+            match self.just_above(at) {
+                Some(next) => at = next,
+                None => return count,
             }
         }
         MOST_DEVICES
+    }
+
+    /// How many steps the lines of a question are indented that is asked for this device: none for the originator, and
+    /// else one more than devices stand above it. At most 65.
+    pub(crate) fn depth_of(&self, device: Option<DeviceId>) -> usize
+        ensures few { result ≤ 65 }
+        ensures exact { result ≡ depth_of self.now.above device }
+    {
+        match device {
+            Some(device) => self.count_above(device) + 1,
+            None => 0,
+        }
     }
 }

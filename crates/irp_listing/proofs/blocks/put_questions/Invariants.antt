@@ -1,7 +1,9 @@
-use Rattle.std.proofs.Common.{◌*◌}
-use Rattle.irp_listing.specs.Blocks.{AddsLines}
+use Rattle.std.proofs.Common.{◌≡◌, ◌++◌, take}
+use Rattle.std.specs.List.{flat_map}
+use Rattle.irp_listing.specs.Blocks.{question_lines}
 use Rattle.irp_listing.proofs.blocks.put_questions.Given as goal
 
--- two lines for each question so far stand there
+-- the lines of the questions so far stand there
 abbrev pub invariant-loop-question : goal.invariant-loop-question
-invariant-loop-question l = AddsLines (l.question-index * 2) l.fn.out.items l.out.items
+invariant-loop-question l =
+    l.out.items ≡ l.fn.out.items ++ flat_map (question_lines l.stacks.above) (take l.question-index l.questions)
