@@ -24,7 +24,7 @@ use Rattle.irp_script_reader.specs.contracts.script.CompletionRoutine as a_compl
 use Rattle.irp_script_reader.specs.contracts.script.CompletionRoutinePartialEq.TheImpl as completion_eq
 use Rattle.irp_script_reader.specs.contracts.script.ScriptForm as a_form
 use Rattle.irp_script_reader.specs.contracts.script.ScriptFormPartialEq.TheImpl as form_eq
-use Rattle.irp_forms.specs.contracts.step_names.ActPartialEq.TheImpl as act_eq
+use Rattle.irp_forms.specs.contracts.step_names.ActKindPartialEq.TheImpl as act_eq
 use Rattle.irp_names.specs.contracts.plan_kinds.PlanKindPartialEq.TheImpl as kind_eq
 use Rattle.irp_grammar.specs.contracts.step_line.Value as a_value
 use Rattle.irp_grammar.specs.contracts.step_line.ValuePartialEq.TheImpl as value_eq
