@@ -1,2 +1,3 @@
 mod Deciding
 mod Mapped
+pub mod Worded

@@ -1,5 +1,9 @@
 //! The words of a line, taken one after the other, and what is wrong with one.
 
+ghost use Rattle.std.specs.Prelude.{◌≡◌, IfOk, None, string_bytes};
+ghost use Rattle.irp_names.specs.Sinks.{Says};
+ghost use Rattle.irp_grammar.specs.Faults.{AreFaultLines, IsFaultLine, SaysOne, hint_said, place_said, word_said};
+
 use crate::wanted::Wanted;
 use irp_names::Sink;
 use std::alloc::{AllocError, Global};
@@ -29,7 +33,9 @@ pub struct WordsFault<'a> {
 
 impl<'a> WordsFault<'a> {
     /// The fault of a whole text.
-    pub fn of_text(wanted: Wanted) -> WordsFault<'a> {
+    pub fn of_text(wanted: Wanted) -> WordsFault<'a>
+        ensures { result ≡ record { line = 0; column = 0; word = None; wanted = wanted; hint = None } }
+    {
         WordsFault {
             line: 0,
             column: 0,
@@ -40,7 +46,10 @@ impl<'a> WordsFault<'a> {
     }
 
     /// Puts the place of the fault, and what stands there.
-    fn write_place(&self, text: &mut Sink) {
+    #[tactic(auto, using(irp_names::proofs::Saying::says_both))]
+    fn write_place(&self, text: &mut Sink)
+        ensures { Says (place_said self.now) text.old text.new }
+    {
         if self.line == 0 {
             text.put("the text");
             return;
@@ -50,31 +59,49 @@ impl<'a> WordsFault<'a> {
         text.put(", column ");
         text.number(self.column as u64);
         text.put(": ");
-        match self.word {
-            Some(word) => text.quoted(word),
-            None => text.put("the line ends"),
-        }
+        put_word(text, self.word);
     }
 
     /// Puts the fault, in a line.
-    fn write(&self, text: &mut Sink) {
+    fn write(&self, alloc: Global, text: &mut Sink)
+        ensures { SaysOne (IsFaultLine self.now) text.old text.new }
+    {
         self.write_place(text);
         text.put("; expected ");
-        self.wanted.write(text);
-        if let Some(hint) = self.hint {
-            text.put(". Did you mean ");
-            text.put(hint);
-            text.put("?");
-        }
+        self.wanted.write(alloc, text);
+        put_hint(text, self.hint);
         text.put("\n");
     }
 }
 
-/// A line for each fault. The one error is want of memory.
-pub fn fault_lines(alloc: Global, faults: &[WordsFault<'_>]) -> Result<String, AllocError> {
+/// Puts the word that stands there, or that none does.
+fn put_word(text: &mut Sink, word: Option<&str>)
+    ensures { Says (word_said word.entry) text.old text.new }
+{
+    match word {
+        Some(word) => text.quoted(word),
+        None => text.put("the line ends"),
+    }
+}
+
+/// Puts what may be meant.
+fn put_hint(text: &mut Sink, hint: Option<&str>)
+    ensures { Says (hint_said hint.entry) text.old text.new }
+{
+    if let Some(hint) = hint {
+        text.put(". Did you mean ");
+        text.put(hint);
+        text.put("?");
+    }
+}
+
+/// A line for each fault, in order. The one error is want of memory.
+pub fn fault_lines(alloc: Global, faults: &[WordsFault<'_>]) -> Result<String, AllocError>
+    ensures { IfOk result (λ text. AreFaultLines faults.now (string_bytes text)) }
+{
     let mut text = Sink::new(alloc);
     for fault in faults {
-        fault.write(&mut text);
+        fault.write(alloc, &mut text);
     }
     text.finish()
 }

@@ -1,9 +1,16 @@
 //! What was expected in the place of a word.
 
+ghost use Rattle.std.specs.Prelude.{◌≢◌, []};
+ghost use Rattle.std.specs.List.{flat_map};
+ghost use Rattle.irp_forms.specs.Steps.{keys_named};
+ghost use Rattle.irp_names.specs.Sinks.{Says};
+ghost use Rattle.irp_grammar.specs.Faults.{Begins, Ends, IsExpected, SaysAny, SaysOne, key_said, keys_said};
+
 use crate::names::named_as;
-use irp_forms::{ActKind, Part};
+use irp_forms::{ActKey, ActKind, Part};
 use irp_names::Sink;
 use irp_script_reader::{MemberFault, ScriptRefusal, Section};
+use std::alloc::Global;
 
 /// What was expected in the place of a word (this project's own rule).
 #[derive(Clone, Copy)]
@@ -71,7 +78,9 @@ pub enum StepFault {
 }
 
 /// What a step has that is taken, where this one doesn't.
-fn step_reason(fault: StepFault) -> &'static str {
+fn step_reason(fault: StepFault) -> &'static str
+    ensures { result.now ≢ [] }
+{
     match fault {
         StepFault::Seat => "a seat below the number of seats",
         StepFault::Setup => {
@@ -101,8 +110,10 @@ fn part_word(part: Part) -> &'static str {
     }
 }
 
-/// What a part may be in words; nothing where it may be a number or a name.
-fn part_words(part: Part) -> &'static str {
+/// The words with which it begins what a part may be: just `a ` where it may be a number or a name.
+fn part_words(part: Part) -> &'static str
+    ensures { result.now ≢ [] }
+{
     match part {
         Part::Device => "a device: D and its number, or a name that a line above gives",
         Part::Routine => {
@@ -119,25 +130,35 @@ fn part_words(part: Part) -> &'static str {
         Part::Packet => "a packet: its label, or its slot, a point and its use number",
         Part::Label => "a label: 1 to 32 letters, digits or underscores",
         Part::CancelOrNull => "a cancel routine: a number, a name that a line above gives, or none",
-        _ => "",
+        _ => "a ",
     }
 }
 
-/// Puts what a part may be.
-fn put_part(text: &mut Sink, part: Part) {
-    match part_words(part) {
-        "" => {
-            text.put("a ");
-            text.put(part_word(part));
-            text.put(": a number, or a name that a line above gives");
-        }
-        words => text.put(words),
+/// Puts what stands behind the words with which it begins what a part may be.
+#[tactic(auto, using(crate::proofs::Worded::any_both))]
+fn put_part(text: &mut Sink, part: Part)
+    ensures { SaysAny text.old text.new }
+{
+    if part_words(part) == "a " {
+        text.put(part_word(part));
+        text.put(": a number, or a name that a line above gives");
     }
+}
+
+/// Puts which name that no line above gives.
+#[tactic(auto, using(crate::proofs::Worded::any_both))]
+fn put_new(text: &mut Sink, part: Part)
+    ensures { SaysAny text.old text.new }
+{
+    text.put(part_word(part));
+    text.put(" name that no line above gives");
 }
 
 impl Wanted {
-    /// What was expected, where that is always the same words.
-    fn words(self) -> &'static str {
+    /// The words with which it begins what was expected.
+    fn words(self) -> &'static str
+        ensures { Begins self result.now }
+    {
         match self {
             Wanted::Heading => {
                 "form, seats, locks, slots, completions, cancels, dispatches, drivers, setup or steps"
@@ -165,52 +186,84 @@ impl Wanted {
             Wanted::Nothing => "the end of the line",
             Wanted::Shorter => "a text of at most 1,048,576 bytes",
             Wanted::Utf8 => "UTF-8",
-            Wanted::Of(_)
-            | Wanted::Key(_)
-            | Wanted::NewName(_)
-            | Wanted::Script(_)
-            | Wanted::Step(..) => "",
+            Wanted::Of(part) => part_words(part),
+            Wanted::NewName(_) => "a ",
+            Wanted::Key(_) => "a key of ",
+            Wanted::Script(refusal) => reason(refusal),
+            Wanted::Step(_, fault) => step_reason(fault),
+        }
+    }
+
+    /// Puts what stands behind those words.
+    #[tactic(auto, using(crate::proofs::Worded::says_keys))]
+    fn write_rest(self, alloc: Global, text: &mut Sink)
+        ensures { SaysOne (Ends self) text.old text.new }
+    {
+        match self {
+            Wanted::Of(part) => put_part(text, part),
+            Wanted::NewName(part) => put_new(text, part),
+            Wanted::Key(act) => put_keys(text, act),
+            Wanted::Script(refusal) | Wanted::Step(refusal, _) => put_refusal(alloc, text, refusal),
+            _ => {}
         }
     }
 
     /// Puts what was expected.
-    pub fn write(self, text: &mut Sink) {
-        match self {
-            Wanted::Of(part) => put_part(text, part),
-            Wanted::NewName(part) => {
-                text.put("a ");
-                text.put(part_word(part));
-                text.put(" name that no line above gives");
-            }
-            Wanted::Key(act) => put_keys(text, act),
-            Wanted::Script(refusal) => put_refusal(text, reason(refusal), refusal),
-            Wanted::Step(refusal, fault) => put_refusal(text, step_reason(fault), refusal),
-            other => text.put(other.words()),
-        }
+    #[tactic(auto, using(crate::proofs::Worded::says_expected))]
+    pub fn write(self, alloc: Global, text: &mut Sink)
+        ensures { SaysOne (IsExpected self) text.old text.new }
+    {
+        text.put(self.words());
+        self.write_rest(alloc, text);
     }
 }
 
-/// Puts what a script has that is taken, and why one is refused.
-fn put_refusal(text: &mut Sink, words: &str, refusal: ScriptRefusal) {
-    text.put(words);
+/// Puts a refusal as it is displayed: first apart, since no contract says what that puts.
+fn put_shown(alloc: Global, text: &mut Sink, refusal: ScriptRefusal)
+    ensures { SaysAny text.old text.new }
+{
+    let mut shown = Sink::new(alloc);
+    shown.show(refusal);
+    match shown.finish() {
+        Ok(words) => text.put(words.as_str()),
+        Err(_) => text.run_out(),
+    }
+}
+
+/// Puts why a script is refused.
+#[tactic(auto, using(crate::proofs::Worded::any_between))]
+fn put_refusal(alloc: Global, text: &mut Sink, refusal: ScriptRefusal)
+    ensures { SaysAny text.old text.new }
+{
     text.put(" (");
-    text.show(refusal);
+    put_shown(alloc, text, refusal);
     text.put(")");
 }
 
-/// Puts the keys of a step, each behind a blank.
-fn put_keys(text: &mut Sink, act: ActKind) {
-    text.put("a key of ");
-    text.put(act.word());
-    text.put(", each once:");
-    for key in act.keys() {
+/// Puts keys, each behind a blank.
+fn put_each(text: &mut Sink, keys: &[ActKey])
+    ensures { Says (flat_map key_said (keys_named keys.now)) text.old text.new }
+{
+    for key in keys {
         text.put(" ");
         text.put(key.0);
     }
 }
 
+/// Puts the word of an act, and its keys.
+#[tactic(auto, using(crate::proofs::Worded::says_act))]
+fn put_keys(text: &mut Sink, act: ActKind)
+    ensures { Says (keys_said act) text.old text.new }
+{
+    text.put(act.word());
+    text.put(", each once:");
+    put_each(text, act.keys());
+}
+
 /// What a script that is taken has, where one that is refused so doesn't.
-fn reason(refusal: ScriptRefusal) -> &'static str {
+fn reason(refusal: ScriptRefusal) -> &'static str
+    ensures { result.now ≢ [] }
+{
     match refusal {
         ScriptRefusal::At { fault, section, .. } => reason_at(fault, section),
         ScriptRefusal::TooLong => "a script whose JSON has at most 1,048,576 bytes",
@@ -219,7 +272,9 @@ fn reason(refusal: ScriptRefusal) -> &'static str {
 }
 
 /// The same for a fault in a section.
-fn reason_at(fault: MemberFault, section: Section) -> &'static str {
+fn reason_at(fault: MemberFault, section: Section) -> &'static str
+    ensures { result.now ≢ [] }
+{
     match (fault, section) {
         (MemberFault::BadField, Section::Seats) => "1 to 64 seats",
         (MemberFault::BadField, Section::Locks) => "1 to 64 remove locks",
