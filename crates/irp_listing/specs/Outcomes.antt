@@ -38,7 +38,7 @@ given_by (Completion id shown answer) = Some (left_by shown answer)
 given_by (Cancel id shown (FinishCancelled information)) = Some (status_and cancelled information)
 given_by (Cancel id shown Leave) = None
 
--- it was kept for this question's device, or for the originator; it has completed
+-- a packet that a routine kept for who set it, and one that has completed, with what was left
 abbrev pub kept : Shown → Replacement → Outcome
 kept shown left = Kept shown.device left.status left.information
 
@@ -68,11 +68,12 @@ first_or other [] = other
 first_or other (first ∷ rest) = first
 
 -- where the packet is: where the first answer that settles it leaves it; if none does, it has completed with the last
--- status and information that an answer gave, or with these where none did
+-- status and information that an answer gave, or with those of the start where none gave any
 abbrev pub outcome_from : Replacement → List Asked → Outcome
 outcome_from start asked =
     first_or (completed (last_from start (filter_map given_by asked))) (filter_map settled_by asked)
 
+-- the same after a call: it starts with what that says
 abbrev pub outcome_of : Call → List Asked → Outcome
 outcome_of call asked = outcome_from (first_result call) asked
 

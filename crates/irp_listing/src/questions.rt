@@ -115,8 +115,8 @@ impl fmt::Display for ResultTold {
     ghost output = { λ words. Some (result_told words.0 words.1) };
 
     fn fmt<W: fmt::Write>(&self, f: &mut fmt::Formatter<W>) -> fmt::Result {
-        if self.0.0 == 0 && self.1 == 0 {
-            f.write_str("")
+        if self.0 == Status::SUCCESS && self.1 == 0 {
+            Ok(())
         } else {
             write!(f, ", {}", ResultWords(self.0, self.1))
         }
