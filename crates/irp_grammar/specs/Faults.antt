@@ -49,7 +49,8 @@ pub record IsFaultLine (fault : WordsFault) (line : List ℕ) : Type 0 where
 abbrev pub AreFaultLines : List WordsFault → List ℕ → Type 0
 AreFaultLines [] text = text ≡ []
 AreFaultLines (fault ∷ faults) text =
-    (line : List ℕ) × (rest : List ℕ) × IsFaultLine fault line × AreFaultLines faults rest × (text ≡ line ++ rest)
+    (line : List ℕ) × (rest : List ℕ) × IsFaultLine fault line × AreFaultLines faults rest
+    × (text ≡ line ++ rest)
 
 -- ---- as it is put
 

@@ -73,7 +73,8 @@ six its = take 6 (its ++ none)
 -- what a call is said as: its word, and the values of its keys, in their order. No script has a call that allocates: what
 -- it allocates has a label.
 abbrev pub call_said : Call Named ℕ → ActKind × List Value
-call_said (call.CreateDevice driver lock) = (act_kind.CreateDevice, six (value.Number driver.0 ∷ value.Number lock.0 ∷ []))
+call_said (call.CreateDevice driver lock) =
+    (act_kind.CreateDevice, six (value.Number driver.0 ∷ value.Number lock.0 ∷ []))
 call_said (call.Attach device to) = (act_kind.Attach, six (value.Number device.0 ∷ value.Number to.0 ∷ []))
 call_said (call.Detach lower) = (act_kind.Detach, six (value.Number lower.0 ∷ []))
 call_said (call.Delete device) = (act_kind.Delete, six (value.Number device.0 ∷ []))
@@ -82,7 +83,8 @@ call_said (call.Cancel irp) = (act_kind.Cancel, six (value.Packet irp ∷ []))
 call_said (call.Look irp) = (act_kind.Look, six (value.Packet irp ∷ []))
 call_said (call.Reuse irp status) = (act_kind.Reuse, six (value.Packet irp ∷ value.Number status.0 ∷ []))
 call_said (call.FinishTaken irp slot status information) =
-    (act_kind.FinishTaken, six (value.Packet irp ∷ value.Number slot ∷ value.Number status.0 ∷ value.Number information ∷ []))
+    (act_kind.FinishTaken, six (value.Packet irp ∷ value.Number slot
+    ∷ value.Number status.0 ∷ value.Number information ∷ []))
 call_said (call.Allocate size) = (act_kind.Allocate, six (value.Number size ∷ []))
 call_said (call.SetNext by irp major its) =
     (act_kind.SetNext, six (party_value by ∷ value.Packet irp ∷ value.Number major ∷ value.Number its ∷ []))
@@ -94,7 +96,8 @@ call_said (call.SetRoutine by irp setting) =
 call_said (call.CallDriver by irp target) =
     (act_kind.CallDriver, six (party_value by ∷ value.Packet irp ∷ value.Number target.0 ∷ []))
 call_said (call.Complete by irp status information) =
-    (act_kind.Complete, six (party_value by ∷ value.Packet irp ∷ value.Number status.0 ∷ value.Number information ∷ []))
+    (act_kind.Complete, six (party_value by ∷ value.Packet irp
+    ∷ value.Number status.0 ∷ value.Number information ∷ []))
 call_said (call.SetCancelRoutine by irp cancel) =
     (act_kind.SetCancelRoutine, six (party_value by ∷ value.Packet irp ∷ cancel_value cancel ∷ []))
 
@@ -102,15 +105,18 @@ call_said (call.SetCancelRoutine by irp cancel) =
 abbrev pub lock_act_said : LockAct → ActKind × List Value
 lock_act_said (lock_act.Acquire lock tag) = (act_kind.Acquire, six (value.Number lock.0 ∷ value.Number tag ∷ []))
 lock_act_said (lock_act.Release lock tag) = (act_kind.Release, six (value.Number lock.0 ∷ value.Number tag ∷ []))
-lock_act_said (lock_act.BeginRemove lock tag) = (act_kind.BeginRemove, six (value.Number lock.0 ∷ value.Number tag ∷ []))
+lock_act_said (lock_act.BeginRemove lock tag) =
+    (act_kind.BeginRemove, six (value.Number lock.0 ∷ value.Number tag ∷ []))
 lock_act_said (lock_act.Drained lock) = (act_kind.Drained, six (value.Number lock.0 ∷ []))
 
 -- what a step is said as
 abbrev pub act_said : StepAct → ActKind × List Value
 act_said (does.Call made) = call_said made
-act_said (does.Allocate size label) = (act_kind.Allocate, six (value.Number size ∷ value.Packet (named.Label label) ∷ []))
+act_said (does.Allocate size label) =
+    (act_kind.Allocate, six (value.Number size ∷ value.Packet (named.Label label) ∷ []))
 act_said (does.OnLock on) = lock_act_said on
-act_said (does.Hand hand) = (act_kind.Hand, six (value.Number hand.lock.0 ∷ value.Number hand.tag ∷ value.Number hand.to ∷ []))
+act_said (does.Hand hand) =
+    (act_kind.Hand, six (value.Number hand.lock.0 ∷ value.Number hand.tag ∷ value.Number hand.to ∷ []))
 act_said (does.Publish slot irp) = (act_kind.Publish, six (value.Number slot ∷ value.Packet irp ∷ []))
 act_said (does.Withdraw slot) = (act_kind.Withdraw, six (value.Number slot ∷ []))
 act_said (does.Request slot) = (act_kind.Request, six (value.Number slot ∷ []))

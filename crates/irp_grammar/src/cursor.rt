@@ -34,7 +34,8 @@ pub struct WordsFault<'a> {
 impl<'a> WordsFault<'a> {
     /// The fault of a whole text.
     pub fn of_text(wanted: Wanted) -> WordsFault<'a>
-        ensures { result ≡ record { line = 0; column = 0; word = None; wanted = wanted; hint = None } }
+        ensures { result ≡
+            record { line = 0; column = 0; word = None; wanted = wanted; hint = None } }
     {
         WordsFault {
             line: 0,

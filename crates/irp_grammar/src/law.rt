@@ -82,7 +82,8 @@ fn told_of<'a>(alloc: Global, said: &Said<'a>) -> Result<Told, Untold<'a>>
 /// names; `NoMemory` where memory runs out. `Differs` never comes, as far as tests show.
 pub fn json<'a>(alloc: Global, said: &Said<'a>) -> Result<Told, Untold<'a>>
     ensures told { IfOk result (λ told. TellsScript said.now told) }
-    ensures faults { (said.now.faults.items ≢ []) → IfErr result (λ why. GivesFaults said.now.faults.items why) }
+    ensures faults { (said.now.faults.items ≢ [])
+        → IfErr result (λ why. GivesFaults said.now.faults.items why) }
 {
     if said.faults.is_empty() {
         told_of(alloc, said)

@@ -79,7 +79,8 @@ impl<'a> Said<'a> {
     /// The form: as the text says; else 3 where a step hangs on anything, 2 where it has slots, and 1 where it has
     /// neither.
     pub fn form_number(&self) -> u32
-        ensures { result ≡ form_number self.now.form self.now.slots (have_conditions self.now.steps.items) }
+        ensures { result ≡ form_number self.now.form self.now.slots
+            (have_conditions self.now.steps.items) }
     {
         match (self.form, self.slots) {
             (Some(form), _) => form,

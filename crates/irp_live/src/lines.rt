@@ -13,7 +13,8 @@ use std::io::{BufRead, ErrorKind};
 ///
 /// `Failed` where the input failed, and `NoMemory` where memory ran out for the line.
 pub fn read_line<R: BufRead>(input: &mut R, line: &mut Vec<u8>) -> Result<bool, StreamFault>
-    ensures ok { IfOk result (IsRead (R.remaining input.old) (R.remaining input.new) line.new.items) }
+    ensures ok { IfOk result
+        (IsRead (R.remaining input.old) (R.remaining input.new) line.new.items) }
     ensures some { TakesSome (R.remaining input.old) (R.remaining input.new) }
 {
     line.clear();

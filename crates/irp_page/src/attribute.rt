@@ -94,7 +94,8 @@ fn put_attribute(out: &mut Vec<u8>, attribute: Attribute) -> Result<(), AllocErr
 
 /// Puts attributes in order. The one error is want of memory.
 pub(crate) fn put_attributes(out: &mut Vec<u8>, attributes: &[Attribute]) -> Result<(), AllocError>
-    ensures { OnOk result (out.new.items ≡ out.old.items ++ flat_map attribute_bytes attributes.now) }
+    ensures { OnOk result
+        (out.new.items ≡ out.old.items ++ flat_map attribute_bytes attributes.now) }
 {
     for attribute in attributes {
         put_attribute(out, *attribute)?;

@@ -102,7 +102,8 @@ impl Draft {
     /// `AllocError` where a growth was refused; then the draft is of no use.
     pub fn entry(&mut self, entry: &Entry) -> Result<(), AllocError>
         ensures choice { self.new.choice ≡ self.old.choice }
-        ensures drafted { (entries : List Entry) → HasDrafted self.old entries → length entries + 1 < 2 ^ 64
+        ensures drafted { (entries : List Entry) → HasDrafted self.old entries
+            → length entries + 1 < 2 ^ 64
             → OnOk result (HasDrafted self.new (entries ++ entry.now ∷ [])) }
     {
         let life = self.follow(entry)?;
@@ -122,7 +123,8 @@ impl Draft {
     /// `AllocError` where a growth was refused; then the draft is of no use.
     pub fn word(&mut self, line: WordLine) -> Result<(), AllocError>
         ensures choice { self.new.choice ≡ self.old.choice }
-        ensures drafted { (entries : List Entry) → HasDrafted self.old entries → HasDrafted self.new entries }
+        ensures drafted { (entries : List Entry) → HasDrafted self.old entries
+            → HasDrafted self.new entries }
     {
         if self.words.len() <= MOST_LINES {
             self.words.push(line)?;

@@ -18,10 +18,12 @@ use std::alloc::Global;
 /// `Failed` where the output failed, and exactly then its count of failures rose: a beginning of the page went out, and
 /// not the whole. `NoMemory` where memory ran out, and nothing went out.
 pub fn draw<O: Out>(alloc: Global, output: &mut O, subject: &Subject) -> Result<(), StreamFault>
-    ensures ok { (transcript : TranscriptValue) → HasDrafted subject.now.draft.now transcript.entries
+    ensures ok { (transcript : TranscriptValue)
+        → HasDrafted subject.now.draft.now transcript.entries
         → OnOk result (Draws subject.now.draft.now.choice (option_copied subject.now.wrong) transcript
         (O.gone output.old) (O.gone output.new) (O.failures output.old) (O.failures output.new)) }
-    ensures err { (transcript : TranscriptValue) → HasDrafted subject.now.draft.now transcript.entries
+    ensures err { (transcript : TranscriptValue)
+        → HasDrafted subject.now.draft.now transcript.entries
         → IfErr result (DrawsPart subject.now.draft.now.choice (option_copied subject.now.wrong) transcript
         (O.gone output.old) (O.gone output.new) (O.failures output.old) (O.failures output.new)) }
 {

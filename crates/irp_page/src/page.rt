@@ -59,7 +59,8 @@ fn put_mark(
 
 /// Puts the card of an entry, marked if it is the one that is wrong. The one error is want of memory.
 fn put_card(page: &mut Page, deck: &Deck, picked: &Picked) -> Result<(), AllocError>
-    ensures { OnOk result (Tells (item (option_copied deck.now.wrong) picked.now.place) page.old page.new) }
+    ensures { OnOk result
+        (Tells (item (option_copied deck.now.wrong) picked.now.place) page.old page.new) }
 {
     let wrong = wrong_at(deck, picked.place);
     page.tell(&Piece::Entry(picked.place), Tag::Li)?;
@@ -71,7 +72,8 @@ fn put_card(page: &mut Page, deck: &Deck, picked: &Picked) -> Result<(), AllocEr
 
 /// Puts the cards of these entries, in order. The one error is want of memory.
 fn put_cards(page: &mut Page, deck: &Deck, cards: &[Picked]) -> Result<(), AllocError>
-    ensures { OnOk result (Tells (items (option_copied deck.now.wrong) (places_in cards.now)) page.old page.new) }
+    ensures { OnOk result
+        (Tells (items (option_copied deck.now.wrong) (places_in cards.now)) page.old page.new) }
 {
     for picked in cards {
         put_card(page, deck, picked)?;
@@ -107,7 +109,8 @@ fn put_verdict(
     wrong: Option<&Wrong>,
     entries: u64,
 ) -> Result<(), AllocError>
-    ensures { OnOk result (Tells (verdict (option_copied wrong.entry) entries ∷ []) page.old page.new) }
+    ensures { OnOk result
+        (Tells (verdict (option_copied wrong.entry) entries ∷ []) page.old page.new) }
 {
     match wrong {
         Some(wrong) => put_illegal(page, alloc, wrong),

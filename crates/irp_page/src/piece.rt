@@ -62,7 +62,8 @@ fn put_end(out: &mut Vec<u8>, tag: Tag) -> Result<(), AllocError>
 
 /// Puts a number, and these words before and behind it. The one error is want of memory.
 fn put_around(out: &mut Vec<u8>, before: &str, number: u64, behind: &str) -> Result<(), AllocError>
-    ensures { OnOk result (out.new.items ≡ out.old.items ++ (before.now ++ (decimal number ++ behind.now))) }
+    ensures { OnOk result
+        (out.new.items ≡ out.old.items ++ (before.now ++ (decimal number ++ behind.now))) }
 {
     out.extend_from_slice(before.as_bytes())?;
     put_number(out, number)?;

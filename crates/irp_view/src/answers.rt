@@ -26,7 +26,8 @@ pub fn put_answer(words: &mut String, question: Asked) -> Result<(), AllocError>
 
 /// Puts a completion routine's answer by its parts. The one error is want of memory.
 fn put_completion(words: &mut String, answer: Answer) -> Result<(), AllocError>
-    ensures { OnOk result (words.new.bytes.items ≡ words.old.bytes.items ++ completion_text answer) }
+    ensures { OnOk result
+        (words.new.bytes.items ≡ words.old.bytes.items ++ completion_text answer) }
 {
     let Answer {
         keep,

@@ -116,7 +116,8 @@ fn cause_told(wrong: &Wrong) -> Option<Cause>
 /// Puts the row that tells what a refusal comes from, where the manager refuses the call and the entry differs in that.
 /// The one error is want of memory.
 fn put_cause(out: &mut Vec<u8>, words: &mut String, wrong: &Wrong) -> Result<(), AllocError>
-    ensures { OnOk result (AddsCause (cause_told wrong.now.difference wrong.now.cause) out.old.items out.new.items) }
+    ensures { OnOk result
+        (AddsCause (cause_told wrong.now.difference wrong.now.cause) out.old.items out.new.items) }
 {
     let Some(cause) = cause_told(wrong) else {
         return Ok(());

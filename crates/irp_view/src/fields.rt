@@ -68,7 +68,8 @@ pub fn put_hex(words: &mut String, number: u64) -> Result<(), AllocError>
 
 /// Puts words and a number behind them. The one error is want of memory.
 pub fn put_numbered(words: &mut String, lead: &str, number: u64) -> Result<(), AllocError>
-    ensures { OnOk result (words.new.bytes.items ≡ words.old.bytes.items ++ (lead.now ++ decimal number)) }
+    ensures { OnOk result
+        (words.new.bytes.items ≡ words.old.bytes.items ++ (lead.now ++ decimal number)) }
 {
     write!(words, "{}{}", lead, number)
 }
@@ -85,7 +86,8 @@ pub fn put_device(words: &mut String, device: Option<DeviceId>) -> Result<(), Al
 
 /// Puts what was shown in a field. The one error is want of memory.
 pub fn put_field(words: &mut String, field: ShownField, shown: Shown) -> Result<(), AllocError>
-    ensures { OnOk result (words.new.bytes.items ≡ words.old.bytes.items ++ field_text field shown) }
+    ensures { OnOk result
+        (words.new.bytes.items ≡ words.old.bytes.items ++ field_text field shown) }
 {
     match field {
         ShownField::Device => put_device(words, shown.device),

@@ -13,7 +13,8 @@ use std::alloc::AllocError;
 
 /// Puts the part in which an entry differs. The one error is want of memory.
 pub fn put_part(words: &mut String, entry: &Entry, difference: Difference) -> Result<(), AllocError>
-    ensures { OnOk result (words.new.bytes.items ≡ words.old.bytes.items ++ part_text difference entry.now) }
+    ensures { OnOk result
+        (words.new.bytes.items ≡ words.old.bytes.items ++ part_text difference entry.now) }
 {
     match difference {
         Difference::Number => words.push_str("n"),
@@ -45,7 +46,8 @@ pub fn question_at(entry: &Entry, at: usize) -> Option<Asked>
 
 /// Puts a question's answer, as a part of an entry. The one error is want of memory.
 fn put_answer_part(words: &mut String, at: usize, question: Option<Asked>) -> Result<(), AllocError>
-    ensures { OnOk result (words.new.bytes.items ≡ words.old.bytes.items ++ answer_part at question) }
+    ensures { OnOk result
+        (words.new.bytes.items ≡ words.old.bytes.items ++ answer_part at question) }
 {
     match question {
         Some(question) => {
@@ -101,7 +103,8 @@ fn put_refusal(
     call: Call,
     reply: Reply,
 ) -> Result<(), AllocError>
-    ensures { OnOk result (words.new.bytes.items ≡ words.old.bytes.items ++ refusal_told is_made call reply) }
+    ensures { OnOk result
+        (words.new.bytes.items ≡ words.old.bytes.items ++ refusal_told is_made call reply) }
 {
     match reply {
         Reply::Refused(_) => write!(words, "{}", ReplyWords { call, reply }),
@@ -164,7 +167,8 @@ fn put_told(
     part: QuestionPart,
     is_made: bool,
 ) -> Result<(), AllocError>
-    ensures { OnOk result (words.new.bytes.items ≡ words.old.bytes.items ++ told_of part is_made question) }
+    ensures { OnOk result
+        (words.new.bytes.items ≡ words.old.bytes.items ++ told_of part is_made question) }
 {
     match part {
         QuestionPart::Shown(field) => put_field(words, field, question.shown()),

@@ -53,7 +53,8 @@ impl RefusedCalls {
     /// Notes how the call at a place is refused. The one error is want of memory.
     fn put(&mut self, place: u64, refusal: Refusal) -> Result<(), AllocError>
         ensures entries { self.new.entries ≡ self.old.entries }
-        ensures count { self.old.count + 1 < 2 ^ 64 → OnOk result (self.new.count ≡ self.old.count + 1) }
+        ensures count { self.old.count + 1 < 2 ^ 64
+            → OnOk result (self.new.count ≡ self.old.count + 1) }
         ensures first { length self.old.first.items ≤ most_told → OnOk result (self.new.first.items
             ≡ take most_told (self.old.first.items ++ (place, refusal) ∷ [])) }
     {
@@ -99,7 +100,8 @@ fn put_call(words: &mut String, call: (u64, Refusal)) -> Result<(), AllocError>
 
 /// Puts the first refused calls into a line. The one error is want of memory.
 fn put_first(words: &mut String, first: &[(u64, Refusal)]) -> Result<(), AllocError>
-    ensures { OnOk result (words.new.bytes.items ≡ words.old.bytes.items ++ flat_map refused_text first.now) }
+    ensures { OnOk result
+        (words.new.bytes.items ≡ words.old.bytes.items ++ flat_map refused_text first.now) }
 {
     for call in first {
         put_call(words, *call)?;

@@ -42,7 +42,8 @@ fn line_of(alloc: Global, verdict: Verdict) -> Result<String, AllocError>
 fn tell<O: Out>(alloc: Global, output: &mut O, verdict: Verdict) -> Result<(), NotDone>
     ensures ok { OnOk result (Told verdict (output_of (O.gone output.old) (O.failures output.old))
         (output_of (O.gone output.new) (O.failures output.new))) }
-    ensures err { IfErr result (Untold verdict (output_of (O.gone output.old) (O.failures output.old))
+    ensures err { IfErr result (Untold verdict
+        (output_of (O.gone output.old) (O.failures output.old))
         (output_of (O.gone output.new) (O.failures output.new))) }
 {
     let Ok(line) = line_of(alloc, verdict) else {
@@ -73,7 +74,8 @@ pub fn check<R: Read, O: Out>(
     input: &mut R,
     output: &mut O,
 ) -> Result<Verdict, NotDone>
-    ensures checks { Checks (streams_of (R.remaining input.old) (O.gone output.old) (O.failures output.old))
+    ensures checks { Checks
+        (streams_of (R.remaining input.old) (O.gone output.old) (O.failures output.old))
         (streams_of (R.remaining input.new) (O.gone output.new) (O.failures output.new)) result }
     ensures took { TakesAtMost most_taken (R.remaining input.old) (R.remaining input.new) }
 {

@@ -353,7 +353,8 @@ pub fn run<R: Read, O: Out, T: Threads + Wait + Sync>(
     workers: u32,
 ) -> Result<(), NotDone>
     requires { 0 < workers }
-    ensures after { AfterRun workers (streams_of (R.remaining input.old) (O.gone output.old) (O.failures output.old))
+    ensures after { AfterRun workers
+        (streams_of (R.remaining input.old) (O.gone output.old) (O.failures output.old))
         (streams_of (R.remaining input.new) (O.gone output.new) (O.failures output.new)) result }
     ensures took { TakesAtMost most_taken (R.remaining input.old) (R.remaining input.new) }
 {
