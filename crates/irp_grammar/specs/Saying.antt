@@ -82,9 +82,11 @@ call_said (call.Free irp) = (act_kind.Free, six (value.Packet irp ∷ []))
 call_said (call.Cancel irp) = (act_kind.Cancel, six (value.Packet irp ∷ []))
 call_said (call.Look irp) = (act_kind.Look, six (value.Packet irp ∷ []))
 call_said (call.Reuse irp status) = (act_kind.Reuse, six (value.Packet irp ∷ value.Number status.0 ∷ []))
-call_said (call.FinishTaken irp slot status information) =
-    (act_kind.FinishTaken, six (value.Packet irp ∷ value.Number slot
-    ∷ value.Number status.0 ∷ value.Number information ∷ []))
+call_said (call.FinishTaken irp slot status information) = (
+  act_kind.FinishTaken,
+  six (value.Packet irp ∷ value.Number slot
+      ∷ value.Number status.0 ∷ value.Number information ∷ []),
+)
 call_said (call.Allocate size) = (act_kind.Allocate, six (value.Number size ∷ []))
 call_said (call.SetNext by irp major its) =
     (act_kind.SetNext, six (party_value by ∷ value.Packet irp ∷ value.Number major ∷ value.Number its ∷ []))
@@ -95,9 +97,11 @@ call_said (call.SetRoutine by irp setting) =
     (act_kind.SetRoutine, six (party_value by ∷ value.Packet irp ∷ value.Set setting ∷ []))
 call_said (call.CallDriver by irp target) =
     (act_kind.CallDriver, six (party_value by ∷ value.Packet irp ∷ value.Number target.0 ∷ []))
-call_said (call.Complete by irp status information) =
-    (act_kind.Complete, six (party_value by ∷ value.Packet irp
-    ∷ value.Number status.0 ∷ value.Number information ∷ []))
+call_said (call.Complete by irp status information) = (
+  act_kind.Complete,
+  six (party_value by ∷ value.Packet irp
+      ∷ value.Number status.0 ∷ value.Number information ∷ []),
+)
 call_said (call.SetCancelRoutine by irp cancel) =
     (act_kind.SetCancelRoutine, six (party_value by ∷ value.Packet irp ∷ cancel_value cancel ∷ []))
 
