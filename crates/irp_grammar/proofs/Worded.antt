@@ -1,5 +1,5 @@
 -- Words that are put one after the other, of which something holds.
-use Rattle.std.proofs.Common.{◌≡◌, ◌≢◌, ℕ, ◌+◌, ◌<◌, Bor, List, [], ◌∷◌, ◌++◌, codes, get_or, length, take, Option, Some, None, refl, sym, subst, ap, ◌∙◌, append_assoc, append-nil}
+use Rattle.std.proofs.Common.{◌≡◌, ◌≢◌, ℕ, ◌+◌, ◌<◌, Bor, List, [], ◌∷◌, ◌++◌, codes, get_or, length, take, Option, refl, sym, subst, ap, ◌∙◌, append_assoc, append-nil}
 use Rattle.std.proofs.lemmas.List.{flat_map_more, get_or-map, length-map, take_more}
 use Rattle.std.specs.List.{flat_map}
 use Rattle.irp_forms.specs.Steps.{ActKey, act_word, keys_named, keys_of}

@@ -34,7 +34,7 @@ key_said key = codes " " ++ key.0
 abbrev pub keys_said : ActKind → List ℕ
 keys_said act = act_word act ++ (codes ", each once:" ++ flat_map key_said (keys_of act))
 
--- what was expected: of an act's key exactly these words, else some
+-- what was expected: of a key of an act exactly these words, else some
 abbrev pub IsExpected : Wanted → List ℕ → Type 0
 IsExpected (wanted.Key act) words = words ≡ codes "a key of " ++ keys_said act
 IsExpected other words = words ≢ []
@@ -43,7 +43,8 @@ IsExpected other words = words ≢ []
 pub record IsFaultLine (fault : WordsFault) (line : List ℕ) : Type 0 where
   pub expected : List ℕ
   pub wanted : IsExpected fault.wanted expected
-  pub whole : line ≡ place_said fault ++ (codes "; expected " ++ (expected ++ (hint_said fault.hint ++ codes "\n")))
+  pub whole : line ≡ place_said fault
+      ++ (codes "; expected " ++ (expected ++ (hint_said fault.hint ++ codes "\n")))
 
 -- a line for each of these faults, in order, and nothing else
 abbrev pub AreFaultLines : List WordsFault → List ℕ → Type 0
@@ -52,9 +53,9 @@ AreFaultLines (fault ∷ faults) text =
     (line : List ℕ) × (rest : List ℕ) × IsFaultLine fault line × AreFaultLines faults rest
     × (text ≡ line ++ rest)
 
--- ---- as it is put
+-- ---- how it is put
 
--- words of which this holds were put, or memory ran out
+-- words of which this holds were put, or memory ran out; any words
 pub record SaysOne (Holds : List ℕ → Type 0) (before after : Option (List ℕ)) : Type 0 where
   pub words : List ℕ
   pub holds : Holds words
@@ -63,7 +64,7 @@ pub record SaysOne (Holds : List ℕ → Type 0) (before after : Option (List �
 abbrev pub SaysAny : Option (List ℕ) → Option (List ℕ) → Type 0
 SaysAny before after = SaysOne (λ words. Unit {0}) before after
 
--- the words with which it begins what was expected, and what stands behind these
+-- how the words for what was expected begin, and how they end
 abbrev pub Begins : Wanted → List ℕ → Type 0
 Begins (wanted.Key act) words = words ≡ codes "a key of "
 Begins other words = words ≢ []

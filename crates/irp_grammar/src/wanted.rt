@@ -110,7 +110,7 @@ fn part_word(part: Part) -> &'static str {
     }
 }
 
-/// The words with which it begins what a part may be: just `a ` where it may be a number or a name.
+/// How the words for what a part may be begin: with just `a ` where it may be a number or a name.
 fn part_words(part: Part) -> &'static str
     ensures { result.now ≢ [] }
 {
@@ -134,7 +134,7 @@ fn part_words(part: Part) -> &'static str
     }
 }
 
-/// Puts what stands behind the words with which it begins what a part may be.
+/// Puts how they end.
 #[tactic(auto, using(crate::proofs::Worded::any_both))]
 fn put_part(text: &mut Sink, part: Part)
     ensures { SaysAny text.old text.new }
@@ -145,7 +145,7 @@ fn put_part(text: &mut Sink, part: Part)
     }
 }
 
-/// Puts which name that no line above gives.
+/// Puts which name was expected, behind `a `.
 #[tactic(auto, using(crate::proofs::Worded::any_both))]
 fn put_new(text: &mut Sink, part: Part)
     ensures { SaysAny text.old text.new }
@@ -155,7 +155,7 @@ fn put_new(text: &mut Sink, part: Part)
 }
 
 impl Wanted {
-    /// The words with which it begins what was expected.
+    /// How the words for what was expected begin.
     fn words(self) -> &'static str
         ensures { Begins self result.now }
     {
@@ -194,7 +194,7 @@ impl Wanted {
         }
     }
 
-    /// Puts what stands behind those words.
+    /// Puts how they end.
     #[tactic(auto, using(crate::proofs::Worded::says_keys))]
     fn write_rest(self, alloc: Global, text: &mut Sink)
         ensures { SaysOne (Ends self) text.old text.new }
@@ -218,7 +218,7 @@ impl Wanted {
     }
 }
 
-/// Puts a refusal as it is displayed: first apart, since no contract says what that puts.
+/// Puts a refusal as it is displayed. It is displayed apart first: no clause says what `show` leaves of a text.
 fn put_shown(alloc: Global, text: &mut Sink, refusal: ScriptRefusal)
     ensures { SaysAny text.old text.new }
 {
