@@ -4,10 +4,12 @@ Each driver is linked alone, and what its source calls by a global name stays it
 side by side. A name that another driver or the test wants stays global, where just one driver has it. DriverEntry of a
 driver is found by the driver's name: FILE_DriverEntry, in a table for WdmLoadByName."""
 
+import json
 import os
 import re
 
 import compiling
+import pageable
 from compiling import Stop, call
 
 HERE = os.path.dirname(os.path.abspath(__file__))
@@ -16,7 +18,7 @@ DRIVER_FLAGS = ["-std=gnu11", "-fcommon", "-Wall", "-Wextra", "-Wno-multichar", 
 
 
 # The host's own tests, where none is given: for a run, and for every order.
-OWN_TESTS = [["exercise.c", "requests.c"], ["overlaps.c"]]
+OWN_TESTS = [["exercise.c", "holding.c", "requests.c"], ["overlaps.c"]]
 NAMED_TESTS = "named_tests.c"  # the host's `main` for tests that a file has by WDM_TEST
 OWN_FILES = [NAMED_TESTS, *(it for files in OWN_TESTS for it in files)]
 
@@ -129,14 +131,25 @@ def objects_of_drivers(named, folder):
     return [f"{folder}/{number}_{name}.o" for number, (name, _) in enumerate(find_sources(named)[0])]
 
 
-def write_table(path, drivers, has_alias):
-    """Writes a table of the drivers, with the types as C has them: it names no header, which takes most of its time."""
+def own_objects(named, libraries, folder):
+    """Returns the objects of drivers, of what they import, and of the test, that `build` left there."""
+    drivers, others, _ = find_sources(list(libraries) + list(named))
+    names = [name for name, _ in drivers] + [stem(source) for source in others]
+    return [f"{folder}/{number}_{name}.o" for number, name in enumerate(names)]
+
+
+def write_table(path, drivers, has_alias, paged):
+    """Writes a table of the drivers, and one of their pageable functions, with the types as C has them: it names no header,
+    which takes most of its time."""
     with open(path, "w", encoding="utf-8") as it:
         it.writelines(f"int {name}_DriverEntry(void *driver, void *path);\n" for name, _ in drivers)
         it.write("const struct { const char *name; int (*entry)(void *, void *); } wdm_drivers[] = {\n")
         it.writelines(f'    {{ "{name}", {name}_DriverEntry }},\n' for name, _ in drivers)
         it.write("    { 0, 0 }\n")
         it.write(f"}};\nconst int wdm_n_drivers = {len(drivers)};\n")
+        it.write("const struct { const char *file, *function; int (*of)(void *, void *); } wdm_pageable[] = {\n")
+        it.writelines(f'    {{ {json.dumps(file)}, "{name}", {of} }},\n' for of, file, name in paged)
+        it.write("    { 0, 0, 0 }\n};\n")
         if has_alias:
             it.write("int DriverEntry(void *driver, void *path)\n{\n"
                      f"    return {drivers[0][0]}_DriverEntry(driver, path);\n}}\n")
@@ -170,7 +183,9 @@ def build(compiler, flags, named, library, folder, link_flags=(), libraries=(), 
     for made, (name, _, _), keep in zip(objects, units, shared_names(units, apart, exporting)):
         localize(made, name, keep - {"DriverEntry"})
     table = folder + "/drivers.c"
-    write_table(table, drivers, len(drivers) == 1 and any("DriverEntry" in wanted for _, wanted in apart))
+    paged = [(of, *row) for of, files in [*((f"{name}_DriverEntry", files) for name, files in drivers), ("0", others)]
+             for row in pageable.rows(compiler, flags, files)]
+    write_table(table, drivers, len(drivers) == 1 and any("DriverEntry" in wanted for _, wanted in apart), paged)
     added = {"main": [], "tests": [NAMED_TESTS], "": own_test}
     for source in (table, *(f"{HERE}/host/{it}" for it in added[kind])):
         made = f"{folder}/{len(objects)}_{stem(source)}.o"

@@ -8,6 +8,7 @@ import subprocess
 import sys
 from xml.etree import ElementTree
 
+import as_windows
 import mistakes
 import planted
 
@@ -183,20 +184,27 @@ int main(int argc, char **argv)
 
 
 def notes(bench):
-    """Notes, and no faults: a METHOD_NEITHER pointer without a probe; what each of many packets leaves behind."""
+    """A METHOD_NEITHER pointer without a probe, and one with it; what each of many packets leaves behind."""
     folder = bench.folder("notes")
     with open(folder + "/noted.c", "w", encoding="utf-8") as it:
         it.write(NOTED)
     program = bench.build(folder, [folder + "/noted.c"])
     line = next(number for number, text in enumerate(NOTED.splitlines(), 1) if "= *in" in text)
     said = bench.run(folder, program, args="1", settings={"WDM_PAGE_ENDS": "1"}).said
-    told = re.search(rf"note, a METHOD_NEITHER pointer: .*noted.c:{line} in Control", said)
+    told = re.search(rf"FAULT Unprobed \(0x50\): noted.c:{line} in Control", said)
     yield "a METHOD_NEITHER pointer that isn't probed", None if told else said[-500:]
     said = bench.run(folder, program, args="1 probed", settings={"WDM_PAGE_ENDS": "1"}).said
     yield "and one that is", said[-500:] if "METHOD_NEITHER" in said else None
     said = bench.run(folder, program, args="120 probed").said
     told = re.search(r"note, pool: of 1[12]\d blocks that were allocated at noted.c:\d+, 1\d\d aren't freed", said)
     yield "what packets leave behind", None if told else said[-500:]
+
+
+def right_hostile(bench):
+    """Drivers of hostile/ without what is wrong with them are clean."""
+    for name in "stays_away", "leaves_its_packets", "frees_a_locked_mdl":
+        said, status = ran(bench, "--cflag=-DRIGHT", f"{HERE}/hostile/{name}.c")
+        yield f"the right counterpart of {name}", said[-500:] if status else None
 
 
 COPIED = """#include <wdm.h>
@@ -443,6 +451,8 @@ def missing_rules(names):
         page = set(re.findall(r"^\| (\w+) \|", it.read(), re.M))
     with open(HERE + "/races/untested/pends.c", encoding="utf-8") as it: # see reaching.py
         tried = {it.split("_")[0] for it in names} | set(re.findall(r"/\* told: (\w+) \*/", it.read()))
+    tried |= {rule for _, _, rule, _ in as_windows.FILES}
+    tried |= set(re.findall(r"FAULT (\w+)", " ".join(told for tells in planted.HOSTILE.values() for told in tells)))
     missing = [f"{it} has no case" for it in rules if it not in tried]
     missing += [f"{it} has no row" for it in rules if it not in page]
     missing += [f"{it} is a row, and no rule" for it in sorted(page - set(rules) - {"Rule"})]

@@ -30,16 +30,16 @@ EPILOG = """examples:
   run --junit out.xml mydriver.c test.c  the tests that test.c has by WDM_TEST(NAME), each alone
   run bus.c --on Port filter.c           filter.c goes onto each child of the bus whose id has "Port" in it
   run --page out.html folder             and a page that shows the history
-  run --every-order mydriver.c test.c    every order of the threads' steps with at most two preemptions
+  run --every-order mydriver.c test.c    every order of the threads' steps with at most two preemptions, or three
   run --every-order --preemptions 3 --minutes 20 mydriver.c test.c
   run --every-order --part 2/8 --result 2.txt mydriver.c test.c   an eighth, on one of eight machines
   run --schedule 'p3830,8=1' mydriver.c test.c   the run that failed there again
 
 exit status: 0 all is well; 1 it isn't; 2 nothing was run (usage, or it doesn't build); 3 nothing is wrong so far, and
---verify or --every-order was stopped before every run was made"""
+--verify or --every-order was stopped before every run was made, or a run reached a limit of the host's"""
 # The flags that change what a run does, so that who makes it again needs them.
 CHANGING = ("test", "args", "threads", "controls", "sanitize", "page_ends", "routines_high", "one_processor", "refuse", "pend",
-            "cancel", "real", "wine")
+            "cancel", "whole", "real", "wine", "points")
 
 
 class Columns(argparse.RawDescriptionHelpFormatter):
@@ -58,6 +58,7 @@ def add_stack(parser):
     group.add_argument("--library", action="append", default=[], metavar="FILE.c|FOLDER",
                        help="a driver that exports its globals to the others")
     group.add_argument("--wine", metavar="FOLDER", help="Wine's source: for drivers that use its headers, and get a system buffer whatever their flags say")
+    group.add_argument("--missing", action="store_true", help="only list what the sources name and the host hasn't")
     group.add_argument("--cflag", action="append", default=[], metavar="FLAG", help="a flag for the compiler")
     group.add_argument("--cc", default=os.environ.get("CC", "cc"), help="the compiler (cc)")
 
@@ -69,8 +70,9 @@ def add_test(parser):
     group.add_argument("--args", default="", metavar="WORDS", help="words for the test's main")
     group.add_argument("--threads", type=int, metavar="N", help="threads that the host's test sends from (1 to 16)")
     group.add_argument("--controls", metavar="CODE,..", help="control codes that the host's test sends")
-    group.add_argument("--scenario", choices=orders.SCENARIOS,
-                       help="one scenario of the host's test, for --every-order")
+    group.add_argument("--scenario", type=orders.is_scenario, metavar="NAME",
+                       help=f"one scenario of the host's test, for --every-order: {', '.join(orders.SCENARIOS)}, or A+B as "
+                            "read+0x222000, write+stop")
     group.add_argument("--patience", type=int, metavar="S", help="a wait hangs after S quiet seconds (3)")
     group.add_argument("--timeout", type=int, default=120, metavar="S", help="end a run after so many seconds (120)")
 
@@ -88,11 +90,15 @@ def add_runs(parser):
                        help="completion routines run at DISPATCH_LEVEL, as they may")
     group.add_argument("--one-processor", action="store_true",
                        help="threads share one processor, on which a deferred call preempts them")
+    group.add_argument("--points", type=int, metavar="N",
+                       help="a run by a schedule isn't tried further after N scheduling points (3,000,000)")
     group.add_argument("--refuse", metavar="N|N+|sSEED",
                        help="the N-th allocation of the drivers fails; all from it on; some by a seed")
     group.add_argument("--pend", metavar="N|all",
                        help="what a driver sends down from the N-th device that was attached comes back later")
     group.add_argument("--cancel", metavar="K@N", help="the K-th request is cancelled at its N-th call of a driver")
+    group.add_argument("--whole", action="store_const", const=1,
+                       help="the host's test as it is without --refuse and --cancel, which make it short")
 
 
 def add_verify(parser):
@@ -107,8 +113,8 @@ def add_orders(parser):
     """Adds what every order takes."""
     group = parser.add_argument_group("every order of the threads' steps (EVERY_ORDER.md)")
     group.add_argument("--every-order", action="store_true", help="make every order, within these bounds")
-    group.add_argument("--preemptions", type=int, default=2, metavar="N",
-                       help="orders with at most N preemptions and early timers (2)")
+    group.add_argument("--preemptions", type=int, metavar="N",
+                       help="orders with at most N preemptions and early timers (2; 3 if 2 took less than a second)")
     group.add_argument("--minutes", type=float, default=5, metavar="M", help="stop after so many minutes in all (5)")
     group.add_argument("--rounds", type=int, default=2, metavar="N", help="rounds of the test's loops then (2)")
     group.add_argument("--processes", type=int, metavar="N", help="processes side by side (one a processor)")
@@ -125,7 +131,9 @@ def add_output(parser):
                        help="write a page that shows the history, by irp_view (IRP_VIEW, else bin/irp_view)")
     group.add_argument("--transcript", metavar="FILE", help="where the transcript goes (else beside the program)")
     group.add_argument("--coverage", action="store_true", help="tell which lines of the drivers never ran (gcc)")
+    group.add_argument("--strict", action="store_true", help="a situation of the host's test that wasn't made is a failure")
     group.add_argument("--junit", metavar="FILE", help="write what each run or test gave, for a test server")
+    group.add_argument("--json", metavar="FILE", help="write the same, situations and what never ran, for a program")
     group.add_argument("--tap", action="store_true", help="and print it as lines of the Test Anything Protocol")
     group.add_argument("--irpx", default=os.environ.get("IRPX"), help="the program that judges (IRPX, else bin/irpx)")
 
@@ -160,6 +168,8 @@ def read_arguments():
     options = parser.parse_intermixed_args()
     if options.scenario and not (options.every_order or options.schedule):
         parser.error("--scenario goes with --every-order or --schedule")
+    options.goes_further = options.preemptions is None and not options.part
+    options.preemptions = 2 if options.preemptions is None else options.preemptions
     options.source += [file for _, file in options.on]
     if options.on:
         options.settings["WDM_ON"] = ";".join(f"{stem(file)}={child}" for child, file in options.on)

@@ -9,7 +9,10 @@ import re
 import shutil
 import subprocess
 
+import going_back
+import limits
 import orders
+import own_locks
 import planted
 
 HERE = os.path.dirname(os.path.abspath(__file__))
@@ -32,13 +35,13 @@ WRONG = [
      "ready |= (uint32_t)(can_go_on(&threads[i]) && !(ready && threads[i].waits)) << i;", "classes", "watchdog"),
     ("a wait is never told that it is over", "schedule.c", "(end && end <= clock_now) || is_over(t));",
      "(end && end <= clock_now) || (is_over(t) && end));", "right", "lost_wakeup"),
-    ("a state counts as reached by any choice", "exploring.c", "(state + (uint64_t)choice * 0x9E3779B97F4A7C15u)",
-     "(state + (uint64_t)(choice / MAX_THREADS))", "classes", "late"),
+    ("a state counts as reached by any choice", "exploring.c", "state + (uint64_t)choice * 0x9E3779B97F4A7C15u",
+     "state + (uint64_t)(choice / MAX_THREADS)", "classes", "late"),
     ("what an object had been through is forgotten", "footprint.c",
      "*mine = mix(mix(*mine, normal(object) * 2 + writes), o->written);",
      "*mine = mix(*mine, normal(object) * 2 + writes);", "classes", "watchdog"),
-    ("a state counts as reached that cost more", "exploring.c", "if (was && (int)(was & 255) > left)", "if (was)",
-     "classes", "watchdog"),
+    ("a state counts as reached that cost more", "tables.c", "*is_new = !was || (was & ~mask) < (entry & ~mask);",
+     "*is_new = !was;", "classes", "watchdog"),
     ("that time passed is no event of the clock", "schedule.c", "time_passed_for(t, &clock_now);", "(void)time_passed_for;",
      "classes", "watchdog"),
     ("an early timer is never tried", "exploring.c", "if (t != c->usual && can_choose(c, t) &&",
@@ -247,8 +250,8 @@ def not_legal(made, most=6):
     return f"{illegal[1]}, schedule {illegal[0]}" if illegal else None
 
 
-def test_wrong(run, bench, name, file, old, new, how, where):
-    """An explorer made wrong: the test of that race or stack fails."""
+def wrong_library(run, bench, name, file, old, new):
+    """Returns a copy of the host with one thing in it replaced, or None where that isn't there once."""
     folder = bench.folder(name)
     shutil.copytree(HERE + "/host", folder + "/host")
     os.makedirs(folder + "/host/out")
@@ -259,11 +262,23 @@ def test_wrong(run, bench, name, file, old, new, how, where):
     with open(path, encoding="utf-8") as it:
         text = it.read()
     if text.count(old) != 1:
-        yield f"wrong explorer: {name}", f"{file}: {text.count(old)} places for {old!r}"
-        return
+        return None
     with open(path, "w", encoding="utf-8") as it:
         it.write(text.replace(old, new))
-    library = run.build_host(bench.cc, None, folder + "/host")
+    return run.build_host(bench.cc, None, folder + "/host")
+
+
+def test_wrong(run, bench, name, file, old, new, how, where):
+    """An explorer made wrong: the test of that race, stack or ending fails."""
+    library = wrong_library(run, bench, name, file, old, new)
+    if not library:
+        yield f"wrong explorer: {name}", f"{file}: not one place for {old!r}"
+        return
+    if how == "ending":
+        right, made = (ends(run, bench, f"{it} {where}", it == "wrong" and library) for it in ("right", "wrong"))
+        wrong = going_back.wrong_ending(right, made, where)
+        yield f"wrong explorer: {name}: {wrong}", None if wrong else "no test shows it"
+        return
     source, flags = f"{HERE}/{'stacks' if how == 'classes' else 'races'}/{where}.c", [] if how != "right" else ["-DRIGHT"]
     options = Options(bench.cc, source, 2, flags)
     report = Explored(run, bench, f"wrong {where}", options, library).report()
@@ -273,6 +288,19 @@ def test_wrong(run, bench, name, file, old, new, how, where):
     else:
         wrong = wrong_race(report, where) if how == "race" else wrong_right(report)
     yield f"wrong explorer: {name}: {wrong}", None if wrong else "no test shows it"
+
+
+def ends(run, bench, name, library=None, text=going_back.ENDS):
+    """Returns the test that ends badly, built."""
+    folder = bench.folder(f"source {name}")
+    with open(folder + "/ends.c", "w", encoding="utf-8") as it:
+        it.write(text)
+    return Explored(run, bench, name, Options(bench.cc, folder + "/ends.c", 2), library or None)
+
+
+def by_both(run, bench, name, most):
+    made = Explored(run, bench, f"by both {name}", stack_options(bench.cc, name, most))
+    return going_back.test_stack(made, name)
 
 
 def test_untested(run, bench):
@@ -313,7 +341,7 @@ def test_parts(run, bench):
 def merged_parts(bench):
     """The recipe of EVERY_ORDER.md, with xargs for parallel: what four parts leave merges to what the whole leaves."""
     folder = bench.folder("merged parts")
-    command = [HERE + "/run", "--irpx", bench.irpx, "--every-order", "--rounds", "1", "--judge", "1", "--processes", "1"]
+    command = [HERE + "/run", "--irpx", bench.irpx, "--every-order", "--preemptions", "2", "--rounds", "1", "--judge", "1", "--processes", "1"]
     command += [HERE + "/stacks/serial.c", "--result"]
     subprocess.run(["xargs", "-P", "2", "-I{}", *command, f"{folder}/result{{}}", "--part", "{}/4"], input="1\n2\n3\n4\n",
                    text=True, check=True, stdout=subprocess.DEVNULL)
@@ -326,9 +354,9 @@ def merged_parts(bench):
 
 
 def test_stopped(run, bench):
-    """An exploration that is stopped tells which part of it was made. On a fast machine its table is full first."""
+    """An exploration that is stopped tells which part of it was made."""
     told = bench.ran("--every-order", "--rounds", "9", "--judge", "1", "--minutes", "0.03", HERE + "/stacks/keyboard.c")
-    wanted = r"stopped, since (time is up|the table of states is full): (all with \d, )?about \d+ % of those with \d \(estimated\), "
+    wanted = r"stopped, since time is up: (all with \d, )?about \d+ % of those with \d \(estimated\), "
     well = told.returncode == 3 and re.search(wanted, told.stdout)
     yield "an exploration that is stopped tells how far it came", None if well else told.stdout
 
@@ -379,69 +407,10 @@ def what_was_found(lines):
     return {it for it in lines if not it.startswith("covered ")}
 
 
-LOCKS = """#include <wdm.h>
-#include "wdm_test.h"
-#include <pthread.h>
-#include <semaphore.h>
-#include <stdio.h>
-#include <time.h>
-
-static sem_t one;
-static pthread_rwlock_t lock = PTHREAD_RWLOCK_INITIALIZER;
-static pthread_mutex_t mutex = PTHREAD_MUTEX_INITIALIZER;
-static pthread_cond_t told = PTHREAD_COND_INITIALIZER;
-static int sum, is_told;
-
-static void *add(void *context)
-{
-    sem_wait(&one);
-    const int was = sum;
-    sum = was + 1;
-    sem_post(&one);
-    pthread_rwlock_rdlock(&lock);
-    const int seen = sum;
-    pthread_rwlock_unlock(&lock);
-    pthread_rwlock_wrlock(&lock);
-    pthread_rwlock_unlock(&lock);
-    while (pthread_mutex_trylock(&mutex))
-        nanosleep(&(struct timespec){ 0, 1000000 }, NULL);
-    is_told++;
-    pthread_cond_signal(&told);
-    pthread_mutex_unlock(&mutex);
-    return seen ? context : NULL;
-}
-
-int main(void)
-{
-    pthread_t t[2];
-    struct timespec limit;
-    char *own = realloc(strdup("its own memory"), 100), *line = NULL;
-    size_t room = 0;
-    FILE *nothing = fopen("/dev/null", "r");
-    free(getline(&line, &room, nothing) < 0 && !strcmp(own, "its own memory") ? own : (char *)1);
-    free(line);
-    fclose(nothing);
-    sem_init(&one, 0, 1);
-    WdmSend(WdmCreateBottom(FALSE), IRP_MJ_READ, 0, 4);
-    for (int i = 0; i < 2; i++)
-        pthread_create(&t[i], NULL, add, NULL);
-    pthread_mutex_lock(&mutex);
-    clock_gettime(CLOCK_REALTIME, &limit);
-    limit.tv_sec += 5;
-    while (is_told < 2 && !pthread_cond_timedwait(&told, &mutex, &limit))
-        ;
-    pthread_mutex_unlock(&mutex);
-    for (int i = 0; i < 2; i++)
-        pthread_join(t[i], NULL);
-    return WdmFinish() || sum != 2 ? 2 : 0;
-}
-"""
-
-
 def test_locks(run, bench):
     """A test's own semaphores, locks, waits with a limit, and memory; and one without its semaphore."""
     folder = bench.folder("own locks")
-    for name, text, ended in (("right", LOCKS, "done"), ("wrong", re.sub(r"    sem_(wait|post)\(&one\);\n", "", LOCKS), "failed")):
+    for name, text, ended in (("right", own_locks.LOCKS, "done"), ("wrong", re.sub(r"    sem_(wait|post)\(&one\);\n", "", own_locks.LOCKS), "failed")):
         with open(f"{folder}/{name}.c", "w", encoding="utf-8") as it:
             it.write(text)
         report = Explored(run, bench, f"own locks {name}", Options(bench.cc, f"{folder}/{name}.c", 1)).report()
@@ -475,4 +444,9 @@ def tests(run, bench):
               ("orders distinct", lambda: test_distinct(run, bench)),
               ("orders by chance", lambda: test_chance(run, bench)), ("orders with a test's own locks",
                                                                       lambda: test_locks(run, bench))]
-    return found + [(f"wrong explorer {it[0]}", lambda it=it: test_wrong(run, bench, *it)) for it in WRONG]
+    found += [(f"orders by snapshots {it}", lambda it=it, most=most: by_both(run, bench, it, most))
+              for it, most in going_back.BY_BOTH.items()]
+    found += [("limits", lambda: limits.tests(bench))]
+    found += [("orders by snapshots, endings", lambda: going_back.test_endings(ends(run, bench, "endings"))),
+              ("orders by forks, calls", lambda: going_back.test_calls(lambda text: ends(run, bench, "calls", text=text)))]
+    return found + [(f"wrong explorer {it[0]}", lambda it=it: test_wrong(run, bench, *it)) for it in WRONG + going_back.WRONG]

@@ -1,6 +1,7 @@
 """What a driver wants and the host hasn't, told as one list before the compiler's own lines."""
 
 import re
+import subprocess
 
 # Where a name isn't there: the group of the kit that it is of, by the first pattern that fits.
 GROUPS = [
@@ -55,6 +56,19 @@ def names_in(said):
         for name in set(re.findall(pattern, said)) - there:
             found[text.format(name)] = group_of(name) or ("a header" if name.endswith(".h") else None)
     return sorted(found.items())
+
+
+def tell(compiler, flags, sources):
+    """Prints what each source wants and the host hasn't. Returns 1 where that is anything, else 0."""
+    ended = 0
+    for source in sources:
+        words = [compiler, *flags, "-fsyntax-only", "-Wimplicit-function-declaration", source]
+        made = subprocess.run(words, capture_output=True, text=True, errors="replace", check=False)
+        for name, group in names_in(made.stderr):
+            print(f"{source}: {name}{f' ({group})' if group else ''}")
+            ended = 1
+    print("(drivers/INTERFACE.md has what is there)" if ended else "the host has all that these sources name")
+    return ended
 
 
 def listed(said):

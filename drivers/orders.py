@@ -13,6 +13,9 @@ import subprocess
 import sys
 import tempfile
 
+import covering
+import snapshots
+
 RENAMED = ["pthread_create", "pthread_join", "pthread_detach", "pthread_self", "pthread_exit", "pthread_mutex_lock",
            "pthread_mutex_unlock", "pthread_mutex_trylock", "pthread_cond_wait", "pthread_cond_timedwait", "pthread_cond_signal", "pthread_cond_broadcast", "sched_yield",
            "usleep", "nanosleep", "sem_wait", "sem_trywait", "sem_post", "pthread_rwlock_rdlock",
@@ -28,6 +31,72 @@ SCENARIOS = {"overlap": "a read and a write at once", "cancel": "a read that is 
              "power": "power goes and comes while a read is under way",
              "remove": "the device is removed while it holds reads",
              "surprise": "the device is gone while it holds reads"}
+
+
+# What happens while a thread sends, and the words for it.
+MEANWHILE = {"cancel": "cancelled", "cleanup": "while its file is closed, and another one has a read",
+             "stop": "over a stop and a start", "surprise": "while the device goes by surprise",
+             "power": "while power goes and comes"}
+QUICKLY = 1  # preemptions of the first round of pieces, by which they are sorted
+JUDGED_OF_A_PIECE = 6  # distinct transcripts
+
+
+class Piece:
+    """A piece of the host's own test that has no name of its own: who sends what, and what happens meanwhile."""
+
+    def __init__(self, scenario, names):
+        self.scenario = scenario
+        what, _, other = scenario.partition("+")
+        self.name = names.get(what, what)
+        if other in MEANWHILE:
+            self.name += f", {MEANWHILE[other]}"
+        elif not other:
+            self.name += " alone"
+        else:
+            self.name += " beside " + ("itself" if other == what else names.get(other, other))
+        self.meets, self.report = 0, None
+
+    def learn(self, report):
+        """How much both sides touch in common: where they race, and in how many ways their steps can come."""
+        self.report = report
+        rounds = report.finished()
+        self.meets = 1000 * len(report.racy) + (rounds[-1]["classes"] if rounds else 0)
+
+
+def words_of(scenario, codes):
+    """Returns the words for a piece; None for a test that isn't the host's own."""
+    names = {hex(code): name for code, name in codes.items() if name}
+    return scenario and (SCENARIOS.get(scenario) or Piece(scenario, names).name)
+
+
+def is_out(piece, report):
+    """Returns why the piece can't be played with these drivers, or None."""
+    refused = [it for it in piece.scenario.split("+") if it in report.covered.missing("taken")]
+    return report.facts.get("apart") or ("no driver takes the control" if refused else None)
+
+
+def tell_piece(piece):
+    """Tells in one line what was covered of a piece."""
+    last = piece.report.finished()[-1]
+    print(f"{piece.name}: {bound_words(last['bound'])}: {plural(last['runs'], 'run')}, {plural(last['classes'], 'class')} of "
+          f"orders, {last['seconds']:.1f} s", flush=True)
+
+
+def is_scenario(text):
+    """Returns the text where it names a piece of the host's own test."""
+    sent = r"(read|write|0x[0-9a-f]+)"
+    if text in SCENARIOS or re.fullmatch(rf"{sent}(\+({sent}|{'|'.join(MEANWHILE)}))?", text):
+        return text
+    raise ValueError(text)
+
+
+def pieces_of(codes, names):
+    """Returns the pieces of controls that are taken, of reads and of writes: each with itself, with each other one, and
+    with what happens meanwhile. `names`: of the codes."""
+    sent = ["read", "write", *codes]
+    pairs = [f"{what}+{other}" for at, what in enumerate(sent) for other in sent[at:]]
+    pairs += [f"{what}+{other}" for what in sent for other in MEANWHILE]
+    return [Piece(it, names) for it in [*codes, *pairs] if it not in ("read+write", "read+cancel", "read+power")]
 
 
 @functools.lru_cache
@@ -51,6 +120,7 @@ class Report:
 
     def __init__(self, path):
         self.rounds, self.outcomes, self.places, self.racy, self.facts = [], [], [], [], {}
+        self.covered = covering.Covered()
         with open(path, encoding="utf-8", errors="replace") as it:
             for line in it.read().splitlines():
                 self.take(*line.partition(" ")[::2])
@@ -67,7 +137,7 @@ class Report:
             self.places.append((rest[0] == "1", rest[2:]))
         elif key == "racy":
             self.racy.append(rest)
-        else:
+        elif not self.covered.take(key, rest):
             self.facts[key] = rest
 
     def finished(self):
@@ -98,9 +168,14 @@ def explore(options, program, folder, settings, tells=False):
     setting = dict(os.environ, **settings, WDM_EXPLORE=str(options.preemptions), WDM_REPORT=path,
                    WDM_ORDERS=orders, WDM_SECONDS=str(int(options.minutes * 60)))
     setting.setdefault("WDM_CLASSES", folder + "/classes")
+    setting.pop("WDM_TRANSCRIPT", None)
+    if snapshots.why_forks(folder):
+        setting.setdefault("WDM_FORKS", snapshots.why_forks(folder))
     words = fixed([program, *options.args.split()])
     if options.processes:
         setting["WDM_PROCESSES"] = str(options.processes)
+    if getattr(options, "goes_further", False):
+        setting["WDM_FURTHER"] = "1"
     if options.part:
         part, _, parts = options.part.partition("/")
         setting.update(WDM_PART=str(int(part) - 1), WDM_PARTS=parts)
@@ -163,13 +238,29 @@ def tell_rounds(report, part):
         elif report.facts.get("ended") == "failed":
             print(f"stopped at a failure: {plural(it['runs'], 'run')} with at most {plural(it['bound'], 'preemption')}, {seconds}")
         else:
-            why = "the table of states is full" if report.facts.get("ended") == "full" else "time is up"
-            print(f"stopped, since {why}: {covered_words(it)}, {plural(it['runs'], 'run')}, {seconds}")
+            print(f"stopped, since time is up: {covered_words(it)}, {plural(it['runs'], 'run')}, {seconds}")
+    if "limited" in report.facts:
+        many, _, why = report.facts["limited"].partition(" ")
+        print(f"{plural(int(many), 'run')} not tried further: {why}")
+    if "forks" in report.facts:
+        print(f"each choice was a process of its own, which is slower, since {report.facts['forks']}")
+
+
+def tell_next(report):
+    """Tells what one more preemption would take, by the choices that were left out and how many of such were runs before."""
+    rounds = report.finished()
+    last = rounds[-1] if rounds else None
+    if report.facts.get("ended") != "done" or len(rounds) < 2 or not last["expected"] or not last["beyond"]:
+        return
+    times = last["beyond"] / last["expected"]
+    seconds = max((last["seconds"] - rounds[-2]["seconds"]) * times, 1)
+    print(f"with {plural(last['bound'] + 1, 'preemption')} it would be about {plural(last['runs'] * times, 'run')}, "
+          f"{plural(seconds, 'second')} (estimated)")
 
 
 def tell_small(report):
     decisions = int(report.facts.get("most_decisions", 0))
-    if decisions > MANY and report.facts.get("ended") in ("stopped", "full"):
+    if decisions > MANY and report.facts.get("ended") == "stopped":
         print(f"a run has up to {decisions} decisions: make its test smaller (WdmRounds, fewer threads, --rounds 1)")
 
 
@@ -248,6 +339,7 @@ def judge(options, irpx, folder, quiet=False):
 
 
 def tell(report, with_lines):
+    tell_next(report)
     tell_small(report)
     tell_places(report, with_lines)
     tell_outcomes(report)

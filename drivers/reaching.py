@@ -1,7 +1,9 @@
 """The host's own test: it finds mistakes off the usual way, tells what never ran, and is silent over right drivers."""
 
+import json
 import os
 import re
+from xml.etree import ElementTree
 
 import planted
 
@@ -37,6 +39,32 @@ def mistakes(bench):
     missing = [it for it in wanted if not re.search(it, said, re.M)]
     yield "the host's own test over a right driver tells what never ran", \
         f"status {status}, no {missing}: {said[-1500:]}" if status or missing else NO_COMPLAINT
+
+
+def situations(bench):
+    """The last line says what `clean` covers; what wasn't made is told with its reason, also to programs, and fails with
+    --strict."""
+    folder = bench.folder("situations")
+    out = [f"{folder}/{it}" for it in ("out.json", "out.xml")]
+    words = ["--json", out[0], "--junit", out[1], "--cflag=-DRIGHT", MISTAKES]
+    said, status = run(bench, *words)
+    line = re.search(r"^clean: (\d+) of (\d+) situations; not made: (.*)$", said, re.M)
+    with open(out[0], encoding="utf-8") as it:
+        made = json.load(it)
+    unmade = [it["name"] for it in made["situations"] if not it["made"]]
+    reasons = [re.search(f"^not made .*{re.escape(it['name'])}.*: {re.escape(it['because'])}$", said, re.M)
+               for it in made["situations"] if not it["made"]]
+    well = line and status == 0 and unmade == line[3].split("; ") and int(line[2]) - int(line[1]) == len(unmade) and all(reasons)
+    yield "what clean covers is told", NO_COMPLAINT if well else said[-900:]
+    well = "QUERY_VOLUME_INFORMATION to Volume" in made["never"]["majors"] and made["status"] == 0
+    yield "and what never came, to programs", NO_COMPLAINT if well else str(made["never"])
+    suite = ElementTree.parse(out[1]).getroot()
+    skipped = [it.get("name") for it in suite.iter("testcase") if it.find("skipped") is not None]
+    yield "and to test servers", NO_COMPLAINT if skipped == unmade and suite.get("failures") == "0" else str(skipped)
+    said, status = run(bench, "--strict", *words)
+    failed = ElementTree.parse(out[1]).getroot().get("failures")
+    well = status == 1 and re.search("^NOT CLEAN: ", said, re.M) and failed == str(len(unmade))
+    yield "and fails where all are wanted", NO_COMPLAINT if well else f"status {status}, {failed}: {said[-600:]}"
 
 
 def without_its_test(bench, name):
@@ -96,8 +124,92 @@ def held_at_removal(bench):
     held = re.compile(rf"^host: FAULT InFlight .*: pends\.c:{line_in_pends('InFlight')} in Pnp .*which D1 \(pends\) holds ", re.M)
     for flags, name, is_told in (("LATE", "fails by its remove lock", False), ("LATE IGNORES", "is held", True)):
         said, status = run(bench, "--cflag=-DRIGHT", *(f"--cflag=-D{it}" for it in flags.split()), PENDS)
-        well = status == is_told and bool(held.search(said)) == is_told
+        others = set(re.findall(r"FAULT (\w+)", said)) - {"KeptOverCleanup"}  # the late read is held over that, too
+        well = status == 1 and bool(held.search(said)) == is_told and (is_told or not others)
         yield f"a read that comes while the device is removed {name}", NO_COMPLAINT if well else said[-900:]
+
+
+def named_file(bench):
+    """Gives a complaint where a source that names FileObject has no request held over its removal."""
+    source = f"{bench.folder('named file')}/named_file.c"
+    with open(PENDS, encoding="utf-8") as it, open(source, "w", encoding="utf-8") as out:
+        out.write(it.read() + "/* It looks at no FileObject, and sets no FsContext. */\n")
+    said, status = run(bench, "--cflag=-DRIGHT", "--cflag=-DUNDRAINED", source)
+    well = status == 1 and "FAULT NotDrained" in said and "FAULT KeptOverSurprise" in said
+    yield "reads are held over a removal where the source names FileObject", NO_COMPLAINT if well else said[-900:]
+
+
+# A read of 4,095 bytes is completed twice; a control stops the system where it comes beside itself.
+SELDOM = r"""#include <wdm.h>
+#define IOCTL_SELDOM_WORK CTL_CODE(FILE_DEVICE_UNKNOWN, 0x850, METHOD_BUFFERED, FILE_ANY_ACCESS)
+static LONG busy, inside;
+static NTSTATUS Complete(PIRP Irp, NTSTATUS Status)
+{
+    Irp->IoStatus.Status = Status;
+    Irp->IoStatus.Information = 0;
+    IoCompleteRequest(Irp, IO_NO_INCREMENT);
+    return Status;
+}
+static NTSTATUS Read(PDEVICE_OBJECT DeviceObject, PIRP Irp)
+{
+    UNREFERENCED_PARAMETER(DeviceObject);
+    if (IoGetCurrentIrpStackLocation(Irp)->Parameters.Read.Length == TWICE)
+        Complete(Irp, STATUS_SUCCESS);
+    return Complete(Irp, STATUS_SUCCESS);
+}
+static NTSTATUS Control(PDEVICE_OBJECT DeviceObject, PIRP Irp)
+{
+    UNREFERENCED_PARAMETER(DeviceObject);
+    if (IoGetCurrentIrpStackLocation(Irp)->Parameters.DeviceIoControl.IoControlCode != IOCTL_SELDOM_WORK)
+        return Complete(Irp, STATUS_INVALID_DEVICE_REQUEST);
+#ifdef RIGHT
+    if (InterlockedCompareExchange(&busy, 1, 0))
+        return Complete(Irp, STATUS_DEVICE_BUSY);
+#else
+    if (busy)
+        return Complete(Irp, STATUS_DEVICE_BUSY);
+    busy = 1;
+#endif
+    if (InterlockedIncrement(&inside) != 1)
+        KeBugCheckEx(0xE2, 0, 0, 0, 0);
+    InterlockedDecrement(&inside);
+    InterlockedExchange(&busy, 0);
+    return Complete(Irp, STATUS_SUCCESS);
+}
+static NTSTATUS Open(PDEVICE_OBJECT DeviceObject, PIRP Irp)
+{
+    UNREFERENCED_PARAMETER(DeviceObject);
+    return Complete(Irp, STATUS_SUCCESS);
+}
+NTSTATUS DriverEntry(PDRIVER_OBJECT DriverObject, PUNICODE_STRING RegistryPath)
+{
+    PDEVICE_OBJECT device;
+    UNREFERENCED_PARAMETER(RegistryPath);
+    DriverObject->MajorFunction[IRP_MJ_CREATE] = DriverObject->MajorFunction[IRP_MJ_CLEANUP] = Open;
+    DriverObject->MajorFunction[IRP_MJ_CLOSE] = Open;
+    DriverObject->MajorFunction[IRP_MJ_READ] = Read;
+    DriverObject->MajorFunction[IRP_MJ_DEVICE_CONTROL] = Control;
+    return IoCreateDevice(DriverObject, 0, NULL, FILE_DEVICE_UNKNOWN, 0, FALSE, &device);
+}
+"""
+
+
+def seldom(bench):
+    """--verify has all that the plain run tries, and --every-order has controls beside themselves: it tells which it made."""
+    source = bench.folder("seldom") + "/seldom.c"
+    with open(source, "w", encoding="utf-8") as it:
+        it.write(SELDOM)
+    said, status = run(bench, "--verify", "--minutes", "0.2", "--processes", "1", "--cflag=-DTWICE=4095", source)
+    well = status == 1 and re.search("FAULT CompletedTwice .*seldom.c:", said)
+    yield "--verify tells what the plain run does", NO_COMPLAINT if well else said[-900:]
+    orders = ["--every-order", "--processes", "1", "--cflag=-DTWICE=1000"]
+    said, status = run(bench, *orders, source)
+    well = status == 1 and "IOCTL_SELDOM_WORK beside itself" in said and re.search("FAULT BugCheck.* in Control", said)
+    yield "every order has a control beside itself", NO_COMPLAINT if well else said[-900:]
+    said, status = run(bench, "--cflag=-DRIGHT", *orders, source)
+    line = re.search(r"^clean: (\d+) of (\d+) situations$", said, re.M)
+    well = status == 0 and line and line[1] == line[2] and re.search("^IOCTL_SELDOM_WORK beside itself: every", said, re.M)
+    yield "and says which pieces it made", NO_COMPLAINT if well else said[-900:]
 
 
 def with_its_flag(bench):
@@ -108,8 +220,9 @@ def with_its_flag(bench):
 
 def tests(bench):
     """Returns the tests: of each a name, and a call that gives names and complaints."""
-    return [("own test, mistakes", lambda: mistakes(bench)), ("own test, samples", lambda: samples(bench)),
+    return [("own test, mistakes", lambda: mistakes(bench)), ("own test, situations", lambda: situations(bench)), ("own test, samples", lambda: samples(bench)),
             ("own test, held at removal", lambda: held_at_removal(bench)),
+            ("own test, a named file", lambda: named_file(bench)), ("own test, seldom", lambda: seldom(bench)),
             ("own test, a buffer's flag", lambda: with_its_flag(bench)),
             ("own test, children", lambda: children(bench)),
             *((f"own test, stack {it}", lambda it=it: silent(bench, it)) for it in planted.FOR_OWN_TEST)]

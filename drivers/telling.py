@@ -8,6 +8,7 @@ import re
 import shutil
 import subprocess
 
+import as_windows
 import checked
 import explored
 import planted
@@ -55,6 +56,8 @@ def tests_of(misuses, cases):
     for fault in planted.FAULTS:
         if not fault.is_race:
             found.setdefault(rule_of(fault.tells[0]), ("planted", fault))
+    for name, flag, rule, _ in as_windows.FILES:
+        found.setdefault(rule, ("windows", (name, flag)))
     for name, tells in planted.HOSTILE.items():
         found.setdefault(rule_of(tells[0]), ("hostile", name))
     for rule in BY_SCHEDULE:
@@ -151,6 +154,10 @@ class Silenced:
             settings = checked.SETTINGS.get("_" + what.partition("_")[2], {})
             run = self.run(self.program("rules", [HERE + "/rules"]), f"{what} wrong", rule, settings)
             return checked.wrong_case(what, checked.lines_told().get(what, []), run)
+        if kind == "windows":
+            source = [f"{HERE}/windows/{what[0]}.c"]
+            program = self.bench.build(self.bench.folder(what[0]), source, library=self.library, flags=[f"-D{what[1]}"])
+            return NO_COMPLAINT if f"FAULT {rule}" in self.run(program, "", rule).said else "it isn't told"
         run = self.run(self.program(what, [f"{HERE}/hostile/{what}.c"]), "", rule)
         missing = [it for it in planted.HOSTILE[what] if it not in run.said]
         return f"it doesn't say {missing[0]}" if missing else NO_COMPLAINT

@@ -13,7 +13,6 @@ import tempfile
 HERE = os.path.dirname(os.path.abspath(__file__))
 FLAGS = ["--coverage", "-fno-early-inlining"]  # else a function that is inlined everywhere has no count
 LINK_FLAGS = ["--coverage", "-Wl,-u,__gcov_dump"]
-MOST_NAMES = 12  # of a kind, where all lines aren't asked for
 
 
 def is_able(compiler):
@@ -92,61 +91,50 @@ def ranges(numbers):
     return ", ".join(str(a) if a == b else f"{a}-{b}" for a, b in found)
 
 
-def some(names):
-    more = len(names) - MOST_NAMES
-    return ", ".join(names[:MOST_NAMES]) + (f" and {more} more" if more > 0 else "")
+def functions_told(files):
+    """Returns the functions that never ran, with their places."""
+    return [f"{it.name} ({file.place(it.line)})" for file in files
+            for it in sorted(file.functions.values(), key=lambda it: it.line) if not it.count and it.name != "main"]
 
 
-def told(files, unreached, with_lines):
-    """Returns the lines that tell it. `unreached` are the host's own: pairs of what and of whom."""
-    functions = {name: it for file in files for name, it in file.functions.items()}
-    named = [f"{it.name} ({file.place(it.line)})" for file in files
-             for it in sorted(file.functions.values(), key=lambda it: it.line) if not it.count and it.name != "main"]
-    majors = [f"{rest} to {name}" for kind, name, rest in unreached if kind == "uncame" and name in functions]
-    errors = [name for kind, name, _ in unreached if kind == "unmet" and name in functions]
-    found = [f"never ran   {some(named)}"] if named else []
-    found += [f"never came  {some(majors)}"] if majors else []
-    found += [f"no error    was met by {some(errors)}"] if errors else []
-    for file in files if with_lines else []:
+def lines_told(files):
+    """Returns a line for each file: which of its lines never ran."""
+    found = []
+    for file in files:
         missed = [n for n, count in file.lines.items() if not count]
         found.append(f"lines       {file.place(ranges(missed)) if missed else os.path.basename(file.path) + ': all'} "
                      f"({len(missed)} of {len(file.lines)} never ran)")
     return found
 
 
+MOST_CODES = 200
 CONTROL = re.compile(r"\b0[xX][0-9a-fA-F]{5,8}\b")
 
 
 def candidates(compiler, flags, sources):
-    """Returns the control codes that may stand in the sources: macros of CTL_CODE that they name, and such numbers."""
-    found = []
+    """Returns the control codes that may stand in the sources, each with its name, or None: macros of CTL_CODE that they
+    name, and such numbers."""
+    found = {}
     for source in sources:
         with open(source, encoding="utf-8", errors="replace") as it:
             text = it.read()
-        found += [int(it, 16) for it in CONTROL.findall(text)]
-        found += macros(compiler, flags, source, text)
-    return [it for it in dict.fromkeys(found) if 1 << 16 < it < 1 << 32 and it >> 16 != 0xC000][:40]
-
-
-def names_files(sources):
-    """Whether a source, or a header beside it, names file objects: then its requests may want one."""
-    beside = {it for source in sources for it in glob.glob(os.path.dirname(os.path.abspath(source)) + "/*.h")}
-    for path in [*sources, *beside]:
-        with open(path, encoding="utf-8", errors="replace") as it:
-            if re.search(r"\b(FileObject|FsContext2?)\b", it.read()):
-                return True
-    return False
+        for code, name in macros(compiler, flags, source, text):
+            found[code] = name
+        for code in CONTROL.findall(text):
+            found.setdefault(int(code, 16), None)
+    may_be = [it for it in found if 1 << 16 < it < 1 << 32 and it >> 16 != 0xC000]
+    return {it: found[it] for it in sorted(may_be, key=lambda it: found[it] is None)[:MOST_CODES]}
 
 
 def macros(compiler, flags, source, text):
-    """Returns the values of the macros of CTL_CODE that a source names."""
+    """Returns the macros of CTL_CODE that a source names: values and names."""
     words = [compiler, *flags, "-E", "-dM", source]
     made = subprocess.run(words, capture_output=True, text=True, errors="replace", check=False)
     bodies = dict(re.findall(r"^#define (\w+) (.*)$", made.stdout, re.M))
-    codes = [it for it in set(re.findall(r"\w+", text)) if "CTL_CODE" in bodies.get(it, "") and it != "CTL_CODE"]
+    codes = sorted(it for it in set(re.findall(r"\w+", text)) if "CTL_CODE" in bodies.get(it, "") and it != "CTL_CODE")
     if not codes:
         return []
-    values = f"static const unsigned wdm_codes[] = {{ {', '.join(sorted(codes))} }};\n"
+    values = f"static const unsigned wdm_codes[] = {{ {', '.join(codes)} }};\n"
     given = f'#include "{os.path.abspath(source)}"\n__attribute__((used, section(".wdm_codes"))) {values}'
     with tempfile.TemporaryDirectory() as room:
         words = [compiler, *flags, "-w", "-O0", "-x", "c", "-", "-c", "-o", room + "/codes.o"]
@@ -155,4 +143,4 @@ def macros(compiler, flags, source, text):
         if made.returncode or subprocess.run(words, capture_output=True, check=False).returncode:
             return []
         with open(room + "/codes", "rb") as it:
-            return list(memoryview(it.read()).cast("I"))
+            return list(zip(memoryview(it.read()).cast("I"), codes))

@@ -7,13 +7,14 @@ import copy
 import os
 import re
 import shlex
-import subprocess
 import sys
 import time
 
+import covering
 import reporting
 
 SEEDS_OF_REFUSALS = 4
+RUNS_A_PROCESSOR = 2  # side by side: a run waits more than it works
 PATIENCE = 10  # seconds: runs stand side by side, and one that gets no processor for a while doesn't hang
 FLAGS = ["-finstrument-functions", f"-finstrument-functions-exclude-file-list={os.path.dirname(os.path.abspath(__file__))}/include/"]
 # What is told of memory is told best where pages end with blocks: at the line itself.
@@ -35,30 +36,48 @@ class Kind:
         self.seconds = 0.0
 
 
-def cancels_of(places):
-    """Returns flags for each place at which a request is on its way: the first of its kind, and all others."""
-    firsts, others, seen = [], [], set()
-    for line in places:
-        at, _, what = line.partition(" ")
-        (others if what in seen else firsts).append({"cancel": at})
-        seen.add(what)
-    return firsts, others
+def split(lines, seen):
+    """Returns where each kind of a place is reached first, and where else: the second time of each kind before the third
+    of any. A line has where, and what makes the kind. Kinds that were seen before are no first ones."""
+    firsts, others, times = [], [], {}
+    for line in lines:
+        at, _, kind = line.partition(" ")
+        times[kind] = times.get(kind, 0) + 1
+        if times[kind] > 1:
+            others.append((times[kind], at))
+        elif kind not in seen:
+            firsts.append(at)
+    seen.update(times)
+    return firsts, [at for _, at in sorted(others, key=lambda it: it[0])]
 
 
-def plan_of(facts, places):
-    """Returns the kinds of runs, by what the first run counted."""
-    allocations = range(1, int(facts.get("allocations", 0)) + 1)
-    attached = range(1, int(facts.get("attached", 0)) + 1)
-    firsts, others = cancels_of(places)
+def each_place(key, short, whole):
+    """Returns flags that take something away at each kind of place once, and those for all other places of the short run.
+    What only the whole test reaches comes behind what the short one does."""
+    seen = set()
+    firsts, others = split(short, seen)
+    more, _ = split(whole, seen)
+    return [{key: at} for at in firsts] + [{key: at, "whole": 1} for at in more], [{key: at} for at in others]
+
+
+def plan_of(short, whole):
+    """Returns the kinds of runs, the most telling first, by what two runs counted: of the short test, and of the whole one."""
+    allocations = range(1, int(short.facts.get("allocations", 0)) + 1)
+    attached = range(1, int(short.facts.get("attached", 0)) + 1)
+    refused, _ = each_place("refuse", short.allocated, whole.allocated)
+    cancelled, others = each_place("cancel", short.places, whole.places)
+    firsts = {it["refuse"] for it in refused if "whole" not in it}
     below = [{"pend": str(n)} for n in attached] + ([{"pend": "all"}] if len(attached) > 1 else [])
     seeds = range(1, SEEDS_OF_REFUSALS + 1) if allocations else []
     return [Kind("blocks at pages' ends", None, [{"page_ends": 1}]),
             Kind("routines at DISPATCH_LEVEL", None, [{"routines_high": 1}]),
             Kind("drivers below that pend", "force_pending", below),
-            Kind("one allocation refused", "low_memory", [{"refuse": str(n)} for n in allocations]),
+            Kind("an allocation refused at each place", "low_memory", refused),
+            Kind("a cancel at each call", "cancel_everywhere", cancelled),
+            Kind("another allocation refused", "low_memory",
+                 [{"refuse": str(n)} for n in allocations if str(n) not in firsts]),
             Kind("all refused from one on", "low_memory", [{"refuse": f"{n}+"} for n in allocations]),
             Kind("some refused, by a seed", "low_memory", [{"refuse": f"s{n}"} for n in seeds]),
-            Kind("a cancel at each call", "cancel_everywhere", firsts),
             Kind("a cancel at each call of each request", "cancel_everywhere", others)]
 
 
@@ -103,7 +122,7 @@ class Verification:
 
     def __init__(self, options, make_run):
         self.options, self.make_run, self.numbers = options, make_run, iter(range(1 << 30))
-        self.faults, self.ran, self.cases = {}, set(), []
+        self.faults, self.covered, self.cases = {}, covering.Covered(), []
         self.began, self.left_out = time.monotonic(), []
         self.until = self.began + 60 * options.minutes
         self.made = self.planned = 0
@@ -127,7 +146,7 @@ class Verification:
         kind.made += 1
         kind.seconds += seconds
         self.made += 1
-        self.ran |= run.ran
+        self.covered.join(run.covered)
         found = complaints_of(run)
         kind.bad += bool(found)
         self.cases.append(reporting.Case(words_of(flags) or kind.name, seconds, found))
@@ -168,23 +187,16 @@ class Verification:
                              f"{kind.name} \x1b[K")
 
     def all_of(self, kinds, pool):
-        """Makes the runs of these kinds, and tells what they found."""
-        for kind in kinds:
-            for flags, made in zip(kind.flags, pool.map(self.one, kind.flags)):
-                self.take(kind, flags, made)
-                self.progress(kind)
-                if kind.part:
-                    self.tell_found()
+        """Makes the runs of these kinds, one kind behind the other, and tells what they found."""
+        runs = [(kind, flags) for kind in kinds for flags in kind.flags]
+        for (kind, flags), made in zip(runs, pool.map(lambda it: self.one(it[1]), runs)):
+            self.take(kind, flags, made)
+            self.progress(kind)
+            if kind.part:
+                self.tell_found()
         if sys.stderr.isatty():
             sys.stderr.write("\r\x1b[K")
         self.tell_found()
-
-
-def functions_of(objects):
-    """Returns the functions that drivers define, by their names."""
-    said = subprocess.run(["nm", *objects], capture_output=True, text=True, check=False).stdout
-    return {words[2].split(".")[0] for words in map(str.split, said.splitlines())
-            if len(words) == 3 and words[1] in "tT" and not words[2].endswith("_DriverEntry")}
 
 
 def chosen(kinds, options):
@@ -192,7 +204,15 @@ def chosen(kinds, options):
     return [it for it in kinds if it.flags and (options.verify or (it.part and getattr(options, it.part)))]
 
 
-def sum_up(found, kinds, functions):
+def situate(found, kinds):
+    """The kinds of runs are rows of the table too, where the host's own test has one."""
+    for kind in kinds if found.covered.situations else []:
+        left = found.left_out.count(kind.name)
+        found.covered.situate(kind.name, f"{left} of {len(kind.flags)} runs are left: give more --minutes",
+                              "unmade" if left else "made")
+
+
+def sum_up(found, kinds, never):
     """Prints the runs of each kind, the faults by rule, and what never ran."""
     made = ", ".join(f"{it.made} {it.name}" + (f" ({it.bad} bad)" if it.bad else "") for it in kinds)
     rules = {}
@@ -201,29 +221,37 @@ def sum_up(found, kinds, functions):
     print(f"runs        {made}")
     if rules:
         print("faults      " + ", ".join(f"{n} {rule}" for rule, n in sorted(rules.items())))
-    never = sorted(functions - found.ran)
-    if never and found.ran:
-        print("never ran   " + ", ".join(never))
-    if found.left_out:
+    for line in covering.lines_of(never):
+        print(line)
+    if found.left_out and not found.covered.situations:
         left = ", ".join(f"{found.left_out.count(it)} {it}" for it in dict.fromkeys(found.left_out))
         print(f"not made    {left}: give more --minutes")
     ending = "NOT CLEAN" if found.faults else "nothing wrong so far" if found.left_out else "clean"
     print(f"verify: {found.made} runs, {len(found.faults)} faults; {ending}")
 
 
-def verify(options, make_run, objects):
-    """Makes all runs, and sums up. `make_run(options, number)` gives a judged run. Returns the exit status, and a case
-    for each run."""
+def counted(found, pool, has_short_test):
+    """Makes the first runs, which count: the plain run with its whole test, and the short one where there is one. Returns
+    the runs of the short test and of the whole one."""
+    count = {"cancel": "count"}
+    flags = [dict(count, whole=1), count] if has_short_test else [count]
+    plain, made = Kind("plain", None, [{}]), list(pool.map(found.one, flags))
+    found.take(plain, {}, made[0])
+    return made[-1][0], made[0][0], plain
+
+
+def verify(options, make_run, has_short_test):
+    """Makes all runs, and sums up. `make_run(options, number)` gives a judged run. Returns the exit status, and what was
+    found."""
     found = Verification(options, make_run)
-    plain = Kind("plain", None, [{}])
-    first = found.one({"cancel": "count"})
-    found.take(plain, {}, first)
-    kinds = chosen(plan_of(first[0].facts, first[0].places), options)
-    found.planned = 1 + sum(len(it.flags) for it in kinds)
-    print(f"verify: {found.planned} runs", flush=True)
-    with concurrent.futures.ThreadPoolExecutor(options.processes or os.cpu_count()) as pool:
-        cheap = [it for it in kinds if not it.part]
-        found.all_of(cheap, pool)
+    with concurrent.futures.ThreadPoolExecutor(RUNS_A_PROCESSOR * (options.processes or os.cpu_count())) as pool:
+        short, whole, plain = counted(found, pool, has_short_test)
+        kinds = chosen(plan_of(short, whole), options)
+        found.planned = 1 + sum(len(it.flags) for it in kinds)
+        print(f"verify: {found.planned} runs", flush=True)
+        found.all_of([it for it in kinds if not it.part], pool)
         found.all_of([it for it in kinds if it.part], pool)
-    sum_up(found, [plain, *kinds], functions_of(objects))
-    return (1 if found.faults else 3 if found.left_out else 0), found.cases
+    situate(found, kinds)
+    never = options.its.never(found.covered)
+    sum_up(found, [plain, *kinds], never)
+    return (1 if found.faults else 3 if found.left_out else 0), reporting.Found(found.cases, found.covered, never)

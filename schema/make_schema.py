@@ -64,7 +64,7 @@ TOLD = {
     'withdraw': 'takes it out again',
     'request': 'takes the use out of any slot',
 }
-# The steps of `setup`, those on remove locks, and those of forms 2 and 3 alone.
+# The steps of `setup`, those on remove locks, and those of forms 2 and 4 alone.
 STEPS = [step(act) for act in TABLES['acts']]
 LOCK, HAND = ([act['word'] for act in TABLES['acts']].index(first) for first in ('acquire', 'hand'))
 CALLS, LOCKS, SLOTS = STEPS[:LOCK], STEPS[LOCK:HAND], STEPS[HAND:]
@@ -72,7 +72,7 @@ CALLS, LOCKS, SLOTS = STEPS[:LOCK], STEPS[LOCK:HAND], STEPS[HAND:]
 
 def by_do(steps, **more):
     """A step is of the form that its `do` names: so a message names the key that is wrong, and not 17 forms. Only the steps
-    of form 3 may have a condition."""
+    of form 4 may have a condition."""
     return {'type': 'object', 'required': ['seat', 'do'],
             'properties': dict({'do': {'enum': [s['title'] for s in steps]}}, **more),
             'allOf': [{'if': {'properties': {'do': {'const': s['title']}}, 'required': ['do']},
@@ -117,9 +117,9 @@ schema = {
     'type': 'object',
     'required': ['form', 'seats', 'locks', 'completions', 'cancels', 'dispatches', 'drivers', 'setup', 'steps'],
     'properties': {
-        'form': {'enum': [1, 2, 3],
+        'form': {'enum': [1, 2, 4],
                  'description': '1: packets and stacks up to 16; 2: up to 32, cancel slots, references handed over; '
-                                '3: as 2, and steps on conditions'},
+                                '4: as 2, and steps on conditions'},
         'seats': whole(64, 1, 'the callers, numbered from 0'),
         'locks': whole(64, 1, 'the remove locks, numbered from 0'),
         'completions': {'type': 'array', 'maxItems': 1280, 'items': ref('completion')},
@@ -128,12 +128,12 @@ schema = {
         'drivers': {'type': 'array', 'maxItems': 64, 'items': ref('driver')},
         'setup': {'type': 'array', 'items': ref('call')},
         'steps': {'type': 'array'},
-        'slots': whole(64, 0, 'forms 2 and 3: the cancel slots; slot k belongs to seat k modulo seats'),
+        'slots': whole(64, 0, 'forms 2 and 4: the cancel slots; slot k belongs to seat k modulo seats'),
     },
     'additionalProperties': False,
-    'if': {'properties': {'form': {'enum': [2, 3]}}, 'required': ['form']},
+    'if': {'properties': {'form': {'enum': [2, 4]}}, 'required': ['form']},
     'then': {'required': ['slots'], 'properties': {'dispatches': {'items': ref('plan_2')}},
-             'if': {'properties': {'form': {'const': 3}}},
+             'if': {'properties': {'form': {'const': 4}}},
              'then': {'properties': {'steps': {'items': ref('step_3')}}},
              'else': {'properties': {'steps': {'items': ref('step_2')}}}},
     'else': {'properties': {'slots': False, 'dispatches': {'items': ref('plan_1')}, 'steps': {'items': ref('step_1')}}},

@@ -1,7 +1,7 @@
 #!/bin/bash
-# Shows that `irpx run` and `irp_orders` make the steps of scripts of form 3 whose conditions hold, and pass over the others:
+# Shows that `irpx run` and `irp_orders` make the steps of scripts of form 4 whose conditions hold, and pass over the others:
 # as the second reading's model does, of scripts by chance and of the examples in examples/right (conditions.py). Where a
-# program refuses form 3, it isn't asked, and the model counts the examples' orders.
+# program refuses form 4, it isn't asked, and the model counts the examples' orders.
 #
 # IRP_ORDERS and IRPX name the programs; without them, they are those that bin/irp_orders and bin/irpx run. COUNT is how many
 # scripts are made by chance and SEED their seed, RUNS how often each example is run.

@@ -1,11 +1,11 @@
-"""Compares irpx and irp_orders, of scripts of form 3, with the second reading's model.
+"""Compares irpx and irp_orders, of scripts of form 4, with the second reading's model.
 
 Usage: conditions.py IRP_ORDERS IRPX COUNT RUNS SEED. Of COUNT scripts by chance, of which some have a wrong condition, `irpx
 run` has to print what the model prints. Of COUNT small ones irp_orders has to tell as many orders for the same outcomes as
 the model, which makes each order. Of every tenth of these each of RUNS / 4 runs, with as many workers as the script has
 seats, has to print one of the outcomes; so does each of RUNS runs of an example in examples/right. Of the examples the model
 and irp_orders have to tell the numbers of orders that were worked out beforehand, and of how many that aren't right; of the
-latter irp_orders with the word --right, where it has that. Where a program refuses form 3, it isn't asked. Prints a line
+latter irp_orders with the word --right, where it has that. Where a program refuses form 4, it isn't asked. Prints a line
 for each difference, and then how many were tried. Ends with status 0, or 1 where something differs.
 """
 
@@ -27,7 +27,7 @@ from layouts import encode, text_of
 from orders_of_steps import orders_of
 from running import run
 from scripts import read_script
-from small_tries import SMALL, takes_form_3
+from small_tries import SMALL, takes_form_4
 
 # Of each example how many orders it has, how many of these aren't right, and how many end in each of its outcomes.
 TABLES = {
@@ -57,7 +57,7 @@ def prepare(irp_orders, irpx, has_right):
 def by_one_worker(seed, number):
     """Compares what irpx prints of a script that is made by chance with what the model prints."""
     rng = random.Random(f"conditions {seed}:{number}")
-    script = base_script(rng, 3, rng.choice((10, 20, 40)))
+    script = base_script(rng, 4, rng.choice((10, 20, 40)))
     if rng.random() < 0.2:
         script = wrong_condition(rng, script)
     text = encode(text_of(script, rng, rng.random() < 0.3))
@@ -133,10 +133,10 @@ def has_right(irp_orders):
 
 def main():
     irp_orders, irpx, count, runs, seed = sys.argv[1], sys.argv[2], *map(int, sys.argv[3:6])
-    is_run, is_ordered, is_checked = takes_form_3(irpx, "run"), takes_form_3(irp_orders), has_right(irp_orders)
+    is_run, is_ordered, is_checked = takes_form_4(irpx, "run"), takes_form_4(irp_orders), has_right(irp_orders)
     for able, told in (
-        (is_run, "irpx refuses form 3 of scripts: steps on conditions, but by the model"),
-        (is_ordered, "irp_orders refuses form 3 of scripts: orders of steps on conditions, but by the model"),
+        (is_run, "irpx refuses form 4 of scripts: steps on conditions, but by the model"),
+        (is_ordered, "irp_orders refuses form 4 of scripts: orders of steps on conditions, but by the model"),
         (is_checked, "irp_orders has no --right: which orders are right, but by the model"),
     ):
         if not able:

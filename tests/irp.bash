@@ -26,8 +26,29 @@ gives 0 "$example.words" words json
 ../bin/irp words json "$example.words" >"$room/script"
 gives 0 "$room/script" run
 ../bin/irp run <"$room/script" >"$room/transcript"
+has='"do":"complete"'
+gives 0 /dev/null run "$example.words"
+gives 0 /dev/null run "$room/script"
+gives 0 "$example.words" run -
 has='legal 8'
 gives 0 "$room/transcript" check
+gives 0 /dev/null check "$room/transcript"
+tried=$((tried + 1))
+if ! ../bin/irp run -o "$room/again" "$example.words" || ! cmp -s "$room/again" "$room/transcript"; then
+    wrong=$((wrong + 1))
+    echo 'failed: irp run -o: no transcript, or another one'
+fi
+sed 's/  complete by D irp a/  compleet by D irp a/' "$example.words" >"$room/misspelled.words"
+has='misspelled.words:14:3: "compleet"'
+gives 1 /dev/null run "$room/misspelled.words"
+has='Did you mean complete?'
+gives 1 /dev/null run "$room/misspelled.words"
+has='65: a number from 1 to 64 is wanted'
+gives 4 /dev/null run --workers 65 "$room/script"
+has='there is no transcript'
+gives 0 /dev/null check
+has='No such file'
+gives 5 /dev/null run "$room/nothing"
 has='refused: Ended'
 gives 0 "$room/transcript" text
 has='1 of 1 orders'
@@ -36,11 +57,19 @@ has='differs in'
 gives 2 ../examples/why/completed_twice.transcript why
 has='Usage: irp WORD'
 gives 0 /dev/null --help
-has='Usage: irpx run'
+has='usage: irp run'
 gives 0 /dev/null run --help
+gives 0 /dev/null run -h
+has='usage: irp check'
 gives 0 /dev/null check --help
+has='irp, commit'
+gives 0 /dev/null --version
 has='drivers/run'
 gives 0 /dev/null help
+has='--on {host,wine}'
+gives 0 /dev/null play --help
+has='a FILE or --random N is wanted'
+gives 2 /dev/null play
 has='is none of its words'
 gives 4 /dev/null ran
 has='a lesson and a file are wanted'
@@ -68,7 +97,7 @@ words_of() {
     tr A-Z a-z | grep -oE '[a-z]{4,}' | sort -u
 }
 has='.SH SYNOPSIS'
-for name in irp irpx irp_view irp_words irp_orders irp_live drivers-run lessons-check; do
+for name in irp irp-run irp-check irp_view irp_words irp_orders irp_live drivers-run lessons-check; do
     gives 0 /dev/null man "$name"
     for section in NAME DESCRIPTION 'EXIT STATUS' EXAMPLES; do
         grep -qx ".SH $section" "$room/output" || { wrong=$((wrong + 1)) && echo "failed: man $name has no $section"; }

@@ -5,7 +5,8 @@ Usage: orders.py IRP_ORDERS IRPX COUNT RUNS SEED. Of the small scripts of the ex
 the two have to tell as many orders for the same outcomes: the same replies, and the same packets and devices at the end;
 each transcript that is shown has to be legal by the model, and its calls to change their seat as often as in the order of
 this outcome that does so least often, or less often where the script has steps that aren't calls; `--right` has to tell how
-many orders don't end right, and a condition that no others meet; and `--never`, in how many a step is made. Of COUNT further scripts
+many orders don't end right, and a condition that no others meet; and `--never`, in how many a step is made, and each step of
+an order, with its own answer, in the order of the answers. Of COUNT further scripts
 that free and allocate packets the same is compared, and, where one seat makes all their steps, the transcript that is
 shown with the one that irpx writes. Of each race, RUNS runs on as many workers as it has seats have to print one of the
 outcomes; so does each of RUNS / 4 runs of a third as many scripts of either kind. As many runs as there are processors go on at
@@ -25,9 +26,10 @@ HERE = os.path.dirname(os.path.realpath(__file__))
 sys.path.append(os.path.join(HERE, "second_reading"))
 
 from cases_by_chance import base_script  # noqa: E402
+from conditions_of_steps import REFUSED_WORDS  # noqa: E402
 from json_texts import compact, read_json  # noqa: E402
 from layouts import encode, text_of  # noqa: E402
-from orders_of_steps import bound_by, changes_of, manager_end, orders_of, replies_of  # noqa: E402
+from orders_of_steps import Stepper, bound_by, changes_of, manager_end, orders_of, replies_of  # noqa: E402
 from runs import Tally, work  # noqa: E402
 from running import Runner  # noqa: E402
 from scripts import LOCK_STEPS, read_script  # noqa: E402
@@ -160,6 +162,45 @@ def made(text, script, wanted):
     return never(text, wanted, f"made({place})", lambda replies: place in replies) if places else None
 
 
+def answered_along(script, path):
+    """Returns what the steps of an order are answered by the model, each with its place, in the order of the answers. The
+    order is that of these seats' atomic steps."""
+    stepper, answered = Stepper(script), []
+    for seat in path:
+        known = set(stepper.heard)
+        if not stepper.makes(seat):
+            raise ValueError(f"seat {seat} has no atomic step left in the order of {path}")
+        answered += [(place, reply) for place, reply in stepper.heard.items() if place not in known]
+    return answered
+
+
+def refusal_in(reply):
+    """Returns how a line tells that a step was refused by this reply, or None."""
+    if type(reply) is dict and "refused" in reply:
+        return f"refused: {reply['refused']}"
+    return f"{reply}: " if reply in REFUSED_WORDS else None
+
+
+def shown(text, script):
+    """Returns what is wrong with an order that `--never` shows step by step, or None: each step has to stand there that the
+    model answers along these seats, with its own answer, in the order of the answers, and no other."""
+    if not script.steps:
+        return None
+    it = subprocess.run([IRP_ORDERS, "--never", "made(0) or not made(0)"], input=text, capture_output=True, timeout=300)
+    told = it.stdout.decode()
+    steps = re.findall(r"(?m)^    step (\d+)  seat (\d+): .* -> (.*)$", told)
+    path = [int(seat) for seat in re.search(r"(?m)^    the seats of its atomic steps:(.*)$", told)[1].split()]
+    wanted = answered_along(script, path)
+    if [(int(place), int(seat)) for place, seat, _ in steps] != [(place, script.steps[place]["seat"]) for place, _ in wanted]:
+        return f"the order of {path} shows the steps {[place for place, _, _ in steps]}, not {[place for place, _ in wanted]}"
+    for (place, _, answer), (_, reply) in zip(steps, wanted):
+        refusal = refusal_in(reply)
+        is_told = any(answer.startswith(it) for it in ("refused: ", *(f"{word}: " for word in REFUSED_WORDS)))
+        if is_told != (refusal is not None) or (refusal and not f"{answer},".startswith(refusal)):
+            return f"the order of {path} shows that step {place} was answered {answer}, not {reply}"
+    return None
+
+
 def differs(script, wanted, got):
     """Returns what differs in the outcomes of a script, or None. Those whose replies and packets are the same stand together:
     other things tell them apart."""
@@ -187,7 +228,7 @@ def compare(name, text):
     try:
         found, wrong = told(text, script)
         if found is not None:
-            wrong = differs(script, wanted, found) or judged(text, wanted) or made(text, script, wanted)
+            wrong = differs(script, wanted, found) or judged(text, wanted) or made(text, script, wanted) or shown(text, script)
     except (ValueError, Shape) as error:
         wrong = str(error) or "the transcript of an outcome has other steps"
     tally.note(KIND, f"{name}: {wrong}", wrong is None)

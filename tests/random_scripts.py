@@ -243,7 +243,7 @@ def key_is_unknown(chance, script):
 
 
 def form_is_unknown(chance, script):
-    script["form"] = chance.choice([0, 4, "1", None, 1.5, [1]])
+    script["form"] = chance.choice([0, 3, "1", None, 1.5, [1]])
     return "S3"
 
 

@@ -1,6 +1,6 @@
 #!/usr/bin/env python3
 """Tries schema/script.schema.json: each script of examples/ is valid, and so is each text of refused/scripts.txt that
-`irpx run` takes, and each script of form 3 of second_reading/conditions_by_hand.py that the second reading takes. Of the
+`irpx run` takes, and each script of form 4 of second_reading/conditions_by_hand.py that the second reading takes. Of the
 refused ones the schema sees all but those that no schema can see, which are counted here by their fault: numbers against
 other numbers (a seat of a step below `seats`, a slot of another seat, a condition on a later step), 1.0 for 1, a key that
 stands twice, labels that are too many. Needs the Python package jsonschema.
@@ -35,8 +35,8 @@ def texts():
     return [(told.decode(), text) for told, text in zip(lines[0::2], lines[1::2]) if told]
 
 
-def texts_of_form_3():
-    """Returns what is told of each script of form 3 that was written by hand, and the text."""
+def texts_of_form_4():
+    """Returns what is told of each script of form 4 that was written by hand, and the text."""
     for _, text in conditions_by_hand.cases():
         what, told = run(text)
         yield 'taken' if what == 'ok' else told, text
@@ -63,7 +63,7 @@ def main():
                 wrong += 1
                 print('failed: not valid:', os.path.relpath(path, TOP))
     unseen = collections.Counter()
-    for told, text in [*texts(), *texts_of_form_3()]:
+    for told, text in [*texts(), *texts_of_form_4()]:
         tried += 1
         valid = any(validator.is_valid(value) for value in value_of(text))
         if told == 'taken' and not valid:

@@ -29,35 +29,54 @@ void associated_ended(Packet *p)
         fault("NoMaster", p, "has ended, and its master has ended before");
         return;
     }
-    if (--raw->AssociatedIrp.IrpCount > 0)
+    if (--raw->AssociatedIrp.IrpCount < 0)
+        fault_at("NoMaster", p, "IoMakeAssociatedIrp", p->sites.allocated, "has ended, and IrpCount of its master was 0 "
+                 "before: set it before the first of them is sent, else the master is never completed");
+    if (raw->AssociatedIrp.IrpCount != 0)
         return;
     settle(master, false);
     complete(master, master->owner, (ULONG)raw->IoStatus.Status, raw->IoStatus.Information);
 }
 
-/* The packet's topmost location is its allocator's own: the record's packet begins below it. Only a packet that was
-   allocated and not prepared yet may be changed so. */
+/* Whether it was allocated and not prepared yet: only then may its topmost location become its allocator's own. */
+static bool is_fresh(const Packet *p)
+{
+    return lives(p) && p->owner == ORIGINATOR && p->current == p->size + 1 && p->prep == NOTHING;
+}
+
+/* The packet's topmost location is its allocator's own from now on: the record's packet begins below it. */
+static void give_own_location(Packet *p)
+{
+    for (size_t i = n_history; i > 0; i--)
+        if (history[i - 1]->op == ALLOCATE && history[i - 1]->p == p) {
+            history[i - 1]->status = (ULONG)--p->size;
+            break;
+        }
+    p->current = p->size + 1;
+    p->scratch = true;
+    put_back(p);
+}
+
 VOID WdmIoSetNextIrpStackLocation(PIRP Irp, WDM_SITE at)
 {
     Call c;
     enter_host(&c, "IoSetNextIrpStackLocation", at);
     Packet *p = find(Irp);
-    const bool is_fresh = lives(p) && p->owner == ORIGINATOR && p->current == p->size + 1 && p->prep == NOTHING;
-    if (p->scratch && is_fresh) {
-        leave_host();
-        return;
-    }
-    if (!is_fresh || p->size < 2)
+    if (!is_fresh(p) || (!p->scratch && p->size < 2))
         fault("TooShort", p, "has no location to spare for its allocator: allocate one more than the target's StackSize");
-    else {
-        for (size_t i = n_history; i > 0; i--)
-            if (history[i - 1]->op == ALLOCATE && history[i - 1]->p == p) {
-                history[i - 1]->status = (ULONG)--p->size;
-                break;
-            }
-        p->current = p->size + 1;
-        p->scratch = true;
-        put_back(p);
-    }
+    else if (!p->scratch)
+        give_own_location(p);
     leave_host();
 }
+
+/* At a call on the packet: where its originator has done the same by hand, it counts as done. */
+void take_own_location(Packet *p)
+{
+    const PIRP irp = p->irp;
+    if (is_fresh(p) && !p->scratch && p->size > 1 && irp->CurrentLocation == p->current - 1 &&
+        irp->Tail.Overlay.CurrentStackLocation == raw_at(p, p->current - 1))
+        give_own_location(p);
+}
+
+/* The device that the allocator wrote into its own location, which its routine is called with; or NULL. */
+PDEVICE_OBJECT own_device(Packet *p) { return p->scratch ? raw_at(p, p->size + 1)->DeviceObject : NULL; }

@@ -107,6 +107,16 @@ static NTSTATUS Any(PDEVICE_OBJECT DeviceObject, PIRP Irp)
     return End(DeviceObject, Irp, (ext->Style & WDM_BOTTOM_LATE) && IsTransfer(major), STATUS_SUCCESS, LengthOf(Irp));
 }
 
+/* What a bus knows of power: the device works where the system does, and is off where it doesn't. */
+static VOID FillPowerStates(PDEVICE_CAPABILITIES Capabilities)
+{
+    if (!Capabilities)
+        return;
+    for (int i = PowerSystemUnspecified; i < POWER_SYSTEM_MAXIMUM; i++)
+        Capabilities->DeviceState[i] = i == PowerSystemUnspecified ? PowerDeviceUnspecified :
+            i == PowerSystemWorking ? PowerDeviceD0 : PowerDeviceD3;
+}
+
 VOID (*at_removal)(VOID);
 
 /* The device goes at once, whatever else is pended. */
@@ -119,6 +129,8 @@ static NTSTATUS Pnp(PDEVICE_OBJECT DeviceObject, PIRP Irp)
     const BOOLEAN fails = (ext->Style & WDM_BOTTOM_NO_START) && minor == IRP_MN_START_DEVICE;
     if (minor == IRP_MN_REMOVE_DEVICE && at_removal)
         at_removal();
+    if (minor == IRP_MN_QUERY_CAPABILITIES)
+        FillPowerStates(IoGetCurrentIrpStackLocation(Irp)->Parameters.DeviceCapabilities.Capabilities);
     const NTSTATUS status = fails ? STATUS_UNSUCCESSFUL : done ? STATUS_SUCCESS : BottomAnswer(DeviceObject, Irp);
     return End(DeviceObject, Irp, (ext->Style & WDM_BOTTOM_PENDS_ALL) && minor != IRP_MN_REMOVE_DEVICE, status,
                Irp->IoStatus.Information);

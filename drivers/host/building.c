@@ -18,6 +18,9 @@ static void write_back(PIRP irp, PVOID to, ULONG room)
     enter_host(&c, "IoBuild", nowhere);
     Packet *p = find(irp);
     p->writes_back = true;
+    irp->RequestorMode = KernelMode; /* a driver's */
+    irp->Flags &= (ULONG)(IRP_BUFFERED_IO | IRP_DEALLOCATE_BUFFER | IRP_INPUT_OPERATION);
+    p->threaded = irp->UserEvent != NULL;
     p->room = room;
     leave_host();
 }
@@ -42,6 +45,17 @@ PIRP WdmBuildControl(ULONG Code, PDEVICE_OBJECT Device, PVOID In, ULONG InLength
     return irp;
 }
 
+/* The I/O manager locks the caller's own buffer: what is read for a device of direct I/O is there at once. */
+static void describe(PMDL mdl, PVOID buffer, ULONG length)
+{
+    Call c;
+    enter_host(&c, "IoBuild", nowhere);
+    MmInitializeMdl(mdl, buffer, length);
+    mdl->MdlFlags |= MDL_PAGES_LOCKED;
+    lock_block(buffer, 1);
+    leave_host();
+}
+
 PIRP WdmBuildFsd(ULONG Major, PDEVICE_OBJECT Device, PVOID Buffer, ULONG Length, PLARGE_INTEGER Offset, PKEVENT Event,
                  PIO_STATUS_BLOCK Iosb, WDM_SITE at)
 {
@@ -51,18 +65,26 @@ PIRP WdmBuildFsd(ULONG Major, PDEVICE_OBJECT Device, PVOID Buffer, ULONG Length,
     WdmIoGetNextIrpStackLocation(irp, at)->FileObject = irp->Tail.Overlay.OriginalFileObject = NULL;
     if (Offset)
         WdmIoGetNextIrpStackLocation(irp, at)->Parameters.Read.ByteOffset = *Offset;
-    PVOID own = irp->MdlAddress ? irp->MdlAddress->MappedSystemVa : irp->AssociatedIrp.SystemBuffer;
-    if (Buffer && Major == IRP_MJ_WRITE && own)
-        memcpy(own, Buffer, Length);
-    write_back(irp, Buffer, Major == IRP_MJ_READ ? Length : 0);
+    if (Buffer && irp->MdlAddress)
+        describe(irp->MdlAddress, Buffer, Length);
+    else if (Buffer && Major == IRP_MJ_WRITE && irp->AssociatedIrp.SystemBuffer)
+        memcpy(irp->AssociatedIrp.SystemBuffer, Buffer, Length);
+    write_back(irp, Buffer, Major == IRP_MJ_READ && !(Buffer && irp->MdlAddress) ? Length : 0);
     return irp;
 }
 
-/* No event: its builder's own routine keeps it and frees it, with IoFreeIrp. */
+/* No event: its builder's own routine keeps it and frees it, with IoFreeIrp, and before that its MDL or system buffer. */
 PIRP WdmBuildAsynchronousFsd(ULONG Major, PDEVICE_OBJECT Device, PVOID Buffer, ULONG Length, PLARGE_INTEGER Offset,
                              PIO_STATUS_BLOCK Iosb, WDM_SITE at)
 {
-    return WdmBuildFsd(Major, Device, Buffer, Length, Offset, NULL, Iosb, at);
+    PIRP irp = WdmBuildFsd(Major, Device, Buffer, Length, Offset, NULL, Iosb, at);
+    if (irp) {
+        Call c;
+        enter_host(&c, "IoBuildAsynchronousFsdRequest", at);
+        lend_buffers(find(irp), Buffer, Length, Major == IRP_MJ_READ);
+        leave_host();
+    }
+    return irp;
 }
 
 /* The power packet is up: its asker is called, and it is freed. */

@@ -41,6 +41,10 @@ PDRIVER_CANCEL WdmIoSetCancelRoutine(PIRP Irp, PDRIVER_CANCEL Routine, WDM_SITE 
     PDRIVER_CANCEL old = NULL;
     if (Routine && lives(p))
         p->sites.cancel = at;
+    if (exchange_own_cancel(p, Routine, &old)) {
+        leave_host();
+        return old;
+    }
     if (f && !p->skipped) {
         old = f->cancel;
         f->cancel = Irp->CancelRoutine = Routine;
@@ -191,8 +195,10 @@ static BOOLEAN cancel(Packet *p, KIRQL irql)
     if (routine)
         run_cancel_routine(p, e, irql);
     else {
-        release_cancel_lock(irql);
         answered(e, CANCELLED, 0);
+        if (run_own_cancel(p, irql))
+            return TRUE;
+        release_cancel_lock(irql);
     }
     return routine;
 }

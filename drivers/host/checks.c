@@ -14,12 +14,15 @@ static const Check checks[] = {
       "hand over the level that this acquire gave" },
     { "IrqlTooHigh", "0xC4 or 0xA", "Managing Hardware Priorities", "do it in a work item or a thread, or before" },
     { "PagedAtDispatch", "0xD1", "Force IRQL Checking", "allocate it from nonpaged pool, or copy what is needed before" },
+    { "PageableCode", "0xD1", "Making Drivers Pageable", "take it out of the section, or raise the level elsewhere" },
+    { "Unprobed", "0x50", "Errors in Referencing User-Space Addresses", "probe it, or lock its pages by an MDL, first" },
     { "IrqlTooLow", "0xC4/0x41", "KeAcquireSpinLockAtDpcLevel function", "call KeAcquireSpinLock" },
     { "IrqlReturn", "0xC9/0x5", "Managing Hardware Priorities", "put the level back on each way out" },
     { "RaiseLower", "0xC4/0x30", "KeRaiseIrql function", "raise upwards, and lower to what the raise gave" },
     { "ForwardedAtBadIrql", "rule ForwardedAtBadIrql", "Dispatch Routines and IRQLs",
       "send it from a work item or a thread, at PASSIVE_LEVEL" },
     { "PoolLeak", "0xC4/0x62", "Pool Tracking", "free it before DriverUnload returns, or at the device's removal" },
+    { "PacketLeak", "0xC4/0x62", "IoAllocateIrp function", "call IoFreeIrp where the packet comes back, or send it again" },
     { "FreedTwice", "0xC2/0x7", "Bug Check 0xC2: BAD_POOL_CALLER", "free it once; set the pointer to NULL then" },
     { "WrongTag", "0xC2/0xA", "Bug Check 0xC2: BAD_POOL_CALLER", "free it with the tag of its allocation" },
     { "NotPool", "0xC4/0x10", "Pool Tracking", "free what a pool call gave, by the same pointer" },
@@ -31,6 +34,10 @@ static const Check checks[] = {
     { "TimerInFreedMemory", "0xC7/0x0", "Bug Check 0xC7: TIMER_OR_DPC_INVALID", "call KeCancelTimer before" },
     { "DpcInFreedMemory", "0xC7/0x1", "Bug Check 0xC7: TIMER_OR_DPC_INVALID", "call KeFlushQueuedDpcs before" },
     { "InformationTooLong", "no stop code", "Errors in Buffered I/O", "set Information to the bytes that were written" },
+    { "Unwritten", "no stop code", "Failure to Initialize Output Buffers",
+      "set Information to the bytes that were written, or clear the buffer before" },
+    { "NotRestored", "no stop code", "Handling an IRP_MN_CANCEL_REMOVE_DEVICE Request",
+      "go back to the state before the query, in IRP_MN_CANCEL_STOP_DEVICE too" },
     { "TouchedAfterSend", "no stop code", "Passing IRPs Down the Driver Stack",
       "copy what is needed before IoCallDriver, or use it in the completion routine" },
     { "RemoveFailed", "rule PnpRemove", "Rules for Handling Plug and Play IRPs", "succeed, and pass it down" },
@@ -48,6 +55,12 @@ static const Check checks[] = {
       "clear DO_DEVICE_INITIALIZING in its Flags when it is attached" },
     { "KeptOverSurprise", "no stop code", "Handling an IRP_MN_SURPRISE_REMOVAL Request",
       "fail what is held in the dispatch of IRP_MN_SURPRISE_REMOVAL, and what comes later" },
+    { "InterfaceEnabled", "no stop code", "Registering a Device Interface",
+      "call IoSetDeviceInterfaceState with FALSE in the removal, and in the surprise removal" },
+    { "NullRoutine", "0xD1 or 0x7E", "IoSetCompletionRoutine function", "set a routine, or FALSE for each InvokeOn" },
+    { "KeptOverCleanup", "no stop code", "DispatchCleanup Routines",
+      "cancel in IRP_MJ_CLEANUP each request that is held and has its FileObject" },
+    { "CleanupOfAnother", "no stop code", "DispatchCleanup Routines", "compare FileObject of each request that is held" },
     { "LockInFreedMemory", "0xC4/0x1006", "Deadlock Detection", "give it back before the memory goes" },
 };
 
@@ -69,6 +82,18 @@ void broken(const char *rule, const Packet *p, const char *how, ...)
     va_end(list);
     const Check *c = check_named(rule);
     fault(rule, p, "%s. Remedy: %s (WDK: %s)", text, c->remedy, c->page);
+}
+
+/* The same of a call that was made before, at this place. */
+void broken_at(const char *rule, const char *call, WDM_SITE at, const char *how, ...)
+{
+    char text[380];
+    va_list list;
+    va_start(list, how);
+    vsnprintf(text, sizeof text, how, list);
+    va_end(list);
+    const Check *c = check_named(rule);
+    fault_at(rule, NULL, call, at, "%s. Remedy: %s (WDK: %s)", text, c->remedy, c->page);
 }
 
 /* The neighbours of a list's entry don't point to it: it isn't in the list, or the list was written over. */

@@ -6,6 +6,7 @@
 typedef struct { const char *rule, *code, *page, *remedy; } Check;
 const Check *check_named(const char *rule);
 __attribute__((format(printf, 3, 4))) void broken(const char *rule, const Packet *p, const char *how, ...);
+__attribute__((format(printf, 4, 5))) void broken_at(const char *rule, const char *call, WDM_SITE at, const char *how, ...);
 
 /* levels.c: at which interrupt level a call may be made. */
 void check_call(const Call *c);
@@ -14,6 +15,14 @@ void check_dispatch_level(const Packet *p, UCHAR major, int device);
 void enter_level(Frame *f);
 void leave_level(Frame *f);
 const char *level_name(KIRQL irql);
+
+/* unwritten.c */
+void fill_behind_input(Packet *p, size_t input);
+void check_written(const Packet *p, int by, size_t input, uint64_t information);
+
+/* pageable.c */
+void check_pageable_call(const Call *c);
+void check_pageable_routine(const Frame *f);
 
 /* locks.c: who holds which lock, and in which order locks are taken. */
 typedef enum { SPIN_LOCK, CANCEL_LOCK, FAST_LOCK, MUTEX_OBJECT } LockKind;
@@ -43,10 +52,11 @@ typedef struct Block {
     size_t size, room; /* room: how many bytes lie behind it, as a fence */
     ULONG tag;
     int driver;
-    bool paged, freed, in_pages, is_buffer, unprobed, is_open;
+    bool paged, freed, in_pages, is_buffer, unprobed, is_programs, is_open;
     int locked; /* by how many MDLs */
     struct Block *next_open;
     WDM_SITE allocated, released;
+    Packet *lent_by;      /* whose system buffer it is, where its builder frees that */
     const Packet *packet; /* for which it was allocated, where a routine of one runs, and that packet's use */
     uint64_t use;
 } Block;
@@ -59,7 +69,7 @@ void check_pool(void);
 void tell_pool_leaks(int driver, bool is_unloaded);
 bool get_pages(Block *b);
 void close_pages(Block *b);
-void close_until_probed(Block *b);
+void close_until_probed(Block *b, bool is_programs);
 void probed(const void *address);
 void close_paged(void);
 void lock_block(const void *address, int change);
@@ -98,6 +108,8 @@ void check_sending(const Packet *p, int by);
 extern int n_allocations;
 bool is_hosts_file(const char *file);
 bool memory_is_refused(const char *what, WDM_SITE at);
+void remember_allocation(int number, const char *what, WDM_SITE at); /* allocated.c, as is the next one */
+void write_allocations(FILE *out);
 bool memory_was_refused(void);
 void tell_refused(void);
 void end_without_driver(PDRIVER_OBJECT driver);
@@ -116,7 +128,6 @@ bool was_cancelled_there(void);
 void tell_cancelled_there(void);
 void write_cancel_places(FILE *out);
 BOOLEAN cancel_if_alive(Packet *p, uint64_t use, WDM_SITE at); /* cancelling.c */
-void write_ran(FILE *out); /* ran.c */
 
 /* kernel.c: spin locks, which take G and give it back themselves. */
 KIRQL take_spin_lock(PKSPIN_LOCK lock, LockKind kind, const char *name, WDM_SITE at);

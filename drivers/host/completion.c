@@ -8,23 +8,10 @@ static bool is_met(const Packet *p, const Setting *set)
         (p->cancel && (set->flags & SL_INVOKE_ON_CANCEL));
 }
 
-/* What was read goes to the buffer of whoever had the packet built. */
-static void copy_out(const Packet *p)
-{
-    const bool is_direct = p->buffer && p->irp->MdlAddress == p->buffer;
-    PVOID from = is_direct ? p->bytes->bytes : p->irp->AssociatedIrp.SystemBuffer, to = p->irp->UserBuffer;
-    if (from && to && from != to && NT_SUCCESS(p->irp->IoStatus.Status) && p->irp->IoStatus.Information <= p->room)
-        memcpy(to, from, p->irp->IoStatus.Information);
-}
-
 /* Nobody kept the packet. */
 static void end(Packet *p, Entry *e)
 {
-    PKEVENT event = p->event_is_gone ? NULL : p->irp->UserEvent;
-    if (p->bytes && p->bytes->unprobed)
-        open_pages(p->bytes);
-    if (p->writes_back)
-        copy_out(p);
+    PKEVENT event = hand_back(p);
     p->owner = ENDED;
     p->asking = NULL;
     p->open = NULL;
@@ -33,11 +20,10 @@ static void end(Packet *p, Entry *e)
     tell_waiters(&host_settled);
     look(p);
     hand_over_block((PVOID)p->information);
+    file_request_ended(p);
     if (is_associated(p))
         associated_ended(p);
-    else if (p->irp->UserIosb && !p->status_is_gone && is_in_page(p->irp))
-        *p->irp->UserIosb = p->irp->IoStatus;
-    else if (!p->is_built)
+    else if (!p->is_built && !(p->irp->UserIosb && !p->status_is_gone && is_in_page(p->irp)))
         fault("NotKept", p, "has ended, and no routine kept it for %s", who_of(p, ORIGINATOR));
     unwatch(p);
     shut(p);
@@ -51,7 +37,7 @@ static void end(Packet *p, Entry *e)
 static bool mark_of(Packet *p, const Frame *f, bool returned, bool had)
 {
     const bool needs = returned && f->device >= 0;
-    if (f->marked == needs || had)
+    if (f->marked == needs || had || (p->scratch && f->device < 0)) /* in its own location it may mark, or not */
         return needs;
     fault_of("Mark", p, f, "%s, and Irp->PendingReturned is %s", f->marked ? "marks" : "doesn't mark",
              returned ? "TRUE" : "FALSE");
@@ -85,7 +71,7 @@ static bool ask_routine(Packet *p, Entry *e, int j, Location l)
     p->asking = &f;
     let_driver_run();
     point("the completion routine", (WDM_SITE){ 0 });
-    NTSTATUS answer = l.set->fn(device < 0 ? NULL : devices[device].raw, p->irp, l.set->raw);
+    NTSTATUS answer = l.set->fn(device < 0 ? own_device(p) : devices[device].raw, p->irp, l.set->raw);
     driver_came_back();
     leave_frame();
     if (f.settled && answer != STATUS_MORE_PROCESSING_REQUIRED)
@@ -238,13 +224,19 @@ VOID WdmIoCompleteRequest(PIRP Irp, WDM_SITE at)
     Packet *p = find(Irp);
     await(p);
     take_hand_mark(p);
+    if (complete_unsent(p) || complete_kept(p)) {
+        leave_host();
+        return;
+    }
     const int by = party_with_location(p);
     const bool live = lives(p);
     const ULONG status = live ? (ULONG)Irp->IoStatus.Status : 0;
     const uint64_t information = live ? Irp->IoStatus.Information : 0;
     const bool good = rules_completable(status);
-    if (live)
+    if (live) {
         check_completion(p, by, status, information);
+        check_cleanup(p, by, status);
+    }
     if (live)
         check_next_power(p, by, false);
     Frame *f = live && p->asking && p->asking->device == by ? p->asking : NULL, *mine = on_top(p);

@@ -28,9 +28,17 @@ static uint64_t room_of(const IO_STACK_LOCATION *l)
     }
 }
 
-static void check_information(const Packet *p, const IO_STACK_LOCATION *l, ULONG status, uint64_t information)
+static bool is_buffered_control(const IO_STACK_LOCATION *l)
+{
+    return l->MajorFunction == IRP_MJ_DEVICE_CONTROL &&
+        METHOD_FROM_CTL_CODE(l->Parameters.DeviceIoControl.IoControlCode) == METHOD_BUFFERED;
+}
+
+static void check_information(const Packet *p, const IO_STACK_LOCATION *l, int by, ULONG status, uint64_t information)
 {
     const uint64_t room = room_of(l);
+    if (!NT_ERROR(status) && information <= room && is_buffered_control(l))
+        check_written(p, by, l->Parameters.DeviceIoControl.InputBufferLength, information);
     if (!NT_ERROR(status) && information > room)
         broken("InformationTooLong", p, "completed with Information %lu, and %s has room for %lu",
                (unsigned long)information, major_name(l->MajorFunction), (unsigned long)room);
@@ -113,7 +121,7 @@ void check_completion(const Packet *p, int by, ULONG status, uint64_t informatio
     if (by < 0 || p->skipped || p->current > p->size || p->at[p->current].device != by || is_between(devices[by].raw))
         return;
     const IO_STACK_LOCATION *l = raw_at((Packet *)p, p->current);
-    check_information(p, l, status, information);
+    check_information(p, l, by, status, information);
     if (l->MajorFunction == IRP_MJ_PNP)
         check_pnp(p, l, by, status);
     else if (l->MajorFunction == IRP_MJ_POWER)

@@ -22,8 +22,10 @@ void go_by_chance(uint64_t seed)
 
 static void deviate(uint32_t step, int choice)
 {
+    if (by_chance) /* whose seed says it all */
+        return;
     if (followed.n == MAX_DEVIATIONS)
-        give_up("a schedule has more than 4,096 deviations");
+        reach_limit("a schedule has 4,096 choices that aren't the usual ones: make its test smaller");
     followed.at[followed.n++] = (Deviation){ step, (uint8_t)choice };
 }
 

@@ -28,7 +28,7 @@ NTSTATUS IoInitializeTimer(PDEVICE_OBJECT Device, PIO_TIMER_ROUTINE Routine, PVO
     t->routine = Routine;
     t->context = Context;
     KeInitializeTimerEx(&t->timer, NotificationTimer);
-    t->dpc = (KDPC){ .Routine = device_timer, .Context = t, .HostDriver = Device->DriverObject->HostNumber };
+    t->dpc = (KDPC){ .DeferredRoutine = device_timer, .DeferredContext = t, .HostDriver = Device->DriverObject->HostNumber };
     hold_host("IoInitializeTimer", &device_timers, WRITES);
     t->next = device_timers;
     device_timers = t;

@@ -10,7 +10,9 @@ NTSTATUS WdmIoCreateDevice(PDRIVER_OBJECT Driver, ULONG Extension, DEVICE_TYPE T
     Call c;
     enter_host(&c, "IoCreateDevice", at);
     touch(&devices, WRITES);
-    PDEVICE_OBJECT o = n_devices < MAX_DEVICES && !memory_is_refused(c.name, at) ? host_memory(sizeof *o) : NULL;
+    if (n_devices == MAX_DEVICES)
+        reach_limit("64 devices in one run, as many as a history may have: let its test make fewer");
+    PDEVICE_OBJECT o = !memory_is_refused(c.name, at) ? host_memory(sizeof *o) : NULL;
     PVOID extension = o ? host_memory(Extension ? Extension : 1) : NULL;
     if (!extension) {
         free_host_memory(o);
@@ -48,18 +50,24 @@ PDEVICE_OBJECT WdmIoAttachDevice(PDEVICE_OBJECT Device, PDEVICE_OBJECT Target, W
     while (devices[top].upper >= 0)
         top = devices[top].upper;
     const char *no = rules_refusal(e);
+    const bool is_early = !no && devices[top].raw->Flags & DO_DEVICE_INITIALIZING && !getenv("WDM_WINE");
     if (no)
         refuse(e, no);
-    else {
+    else if (is_early) {
+        note("attach", "%s isn't attached to %s, which has DO_DEVICE_INITIALIZING set", who(d), who(top));
+        free(e);
+    } else {
         devices[d].lower = top;
         devices[top].upper = d;
         devices[top].raw->AttachedDevice = Device;
         touch_memory(&devices[top].raw->AttachedDevice, sizeof Device, WRITES);
         Device->StackSize = (CCHAR)(devices[top].raw->StackSize + 1);
+        Device->AlignmentRequirement = devices[top].raw->AlignmentRequirement;
+        Device->SectorSize = devices[top].raw->SectorSize;
         answered(e, DEVICE, (uint64_t)top);
     }
     leave_host();
-    return no ? NULL : devices[top].raw;
+    return no || is_early ? NULL : devices[top].raw;
 }
 
 NTSTATUS WdmIoAttachDeviceSafe(PDEVICE_OBJECT Device, PDEVICE_OBJECT Target, PDEVICE_OBJECT *Lower, WDM_SITE at)
@@ -119,7 +127,7 @@ static bool is_kept(int d)
 {
     touch(&devices[d].items, SYNCS);
     touch(devices[d].raw, READS);
-    return devices[d].items || is_referenced(devices[d].raw);
+    return devices[d].items || is_referenced(devices[d].raw) || is_opened(devices[d].raw);
 }
 
 static void let_extension_go(int d, WDM_SITE at)
@@ -152,7 +160,7 @@ static bool stays_for_now(int d)
 {
     const Entry e = { .op = REMOVE, .device = d, .drained = true };
     const char *no = rules_refusal(&e);
-    if (!is_referenced(devices[d].raw) || (no && strcmp(no, "InFlight")))
+    if (!(is_referenced(devices[d].raw) || is_opened(devices[d].raw)) || (no && strcmp(no, "InFlight")))
         return false;
     touch(&devices[d].items, SYNCS);
     devices[d].stays = true;
@@ -209,7 +217,7 @@ void may_go(int d)
 {
     Call c = { .up = self.calls, .name = "IoDeleteDevice", .at = devices[d].deleted };
     touch(&devices[d].items, SYNCS);
-    if (devices[d].stays && !is_referenced(devices[d].raw))
+    if (devices[d].stays && !is_referenced(devices[d].raw) && !is_opened(devices[d].raw))
         delete_late(d);
     else if (devices[d].goes) {
         let_extension_go(d, devices[d].deleted);
@@ -373,9 +381,3 @@ VOID WdmIoDeleteDevice(PDEVICE_OBJECT Device, WDM_SITE at)
 }
 
 VOID IoInvalidateDeviceState(PDEVICE_OBJECT Device) { (void)Device; }
-
-POWER_STATE PoSetPowerState(PDEVICE_OBJECT Device, POWER_STATE_TYPE Type, POWER_STATE State)
-{
-    (void)Device, (void)Type;
-    return State;
-}

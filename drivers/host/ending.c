@@ -49,7 +49,7 @@ static void write_file(const char *name, const char *ending, const char *text, s
 static void keep_transcript(const char *text, size_t length)
 {
     char name[40];
-    if (!getenv("WDM_ORDERS") || !put_in(shared->transcripts, normal_hash(text)))
+    if (!getenv("WDM_ORDERS") || !put_in(&shared->transcripts, normal_hash(text)))
         return;
     snprintf(name, sizeof name, "%lu", shared->n_transcripts++);
     write_file(name, "", text, length);
@@ -104,7 +104,7 @@ static void count_outcome(void)
 /* Whether this run's class is a new one. Else it ends as another one did. */
 bool wants_transcript(void)
 {
-    const bool wants = !is_exploring || !footprints || put_in(shared->classes, state_of_run());
+    const bool wants = !is_exploring || !footprints || put_in(&shared->classes, state_of_run());
     is_finished = true;
     return wants;
 }
@@ -114,7 +114,7 @@ void hand_in(const char *text, size_t length, size_t entries)
 {
     if (is_exploring && entries < expected_entries())
         is_short = true;
-    if (!is_exploring || (!footprints && !put_in(shared->classes, normal_hash(text))))
+    if (!is_exploring || (!footprints && !put_in(&shared->classes, normal_hash(text))))
         return;
     shared->n_classes++;
     count_outcome();
@@ -127,6 +127,8 @@ static const char *failure(int status)
     static char text[700];
     if (first_fault[0])
         return first_fault;
+    if (limit_reached())
+        return NULL;
     if (!is_finished)
         snprintf(text, sizeof text, "no transcript, and exit status %d", status);
     else if (is_short)
@@ -145,6 +147,12 @@ static void raise_to(_Atomic unsigned long *most, unsigned long n)
         ;
 }
 
+static void note_limit(void)
+{
+    if (limit_reached() && !shared->n_limited++)
+        snprintf(shared->limit, sizeof shared->limit, "%s", limit_reached());
+}
+
 /* Ends a process, where orders are explored or a schedule is followed. */
 void end_run(int status)
 {
@@ -154,15 +162,15 @@ void end_run(int status)
         end_process(status);
     const char *why = failure(status);
     if (is_exploring) {
-        is_exploring = false;
         shared->runs++;
+        note_limit();
         raise_to(&shared->most_decisions, (unsigned long)n_decisions);
         raise_to(&shared->most_points, (unsigned long)points_of_run());
         if (why)
             note_failure(&followed, cost_of_run(), why);
         if (why && shared->goes_on) /* as another class than where nothing fails */
-            put_in(shared->classes, state_of_run() ^ hash_of(why, strcspn(why, ":")));
-        wait_for_processes();
+            put_in(&shared->classes, state_of_run() ^ hash_of(why, strcspn(why, ":")));
+        end_exploring_run();
     } else {
         if (schedule_misfits())
             say("STOPPED: the schedule doesn't fit this program");

@@ -4,42 +4,56 @@
  * over several bottoms: one that completes at once, one that completes later, from another thread, one that pends PnP
  * and power too, one that fails, and one that doesn't start. A driver that creates a device in DriverEntry gets the
  * requests there. WDM_SHORT leaves out all but the first two, and most lengths.
+ *
+ * A driver may keep a context in each file that is opened (FsContext), and then a request without a file is none that it has
+ * to expect. So no request is sent without one there.
  */
-#include "bottom_answers.h"
 #include "requests.h"
 #include <pthread.h>
-#include <stdio.h>
 
 extern const struct { const char *name; PDRIVER_INITIALIZE entry; } wdm_drivers[];
 extern const int wdm_n_drivers;
 
-enum { UNKNOWN_MINOR = 0x7f, MAX_CHILDREN = 16, MAX_ASKED = 16 };
-enum { PATIENT = 50, SHORTLY = 10 }; /* milliseconds before a request is cancelled */
+enum { UNKNOWN_MINOR = 0x7f, MAX_CHILDREN = 16 };
+static const char held_none[] = "each request was completed at once";
 static PDEVICE_OBJECT top_of_threads;
 static PDRIVER_OBJECT loaded[64];
 static BOOLEAN is_on_children[64];
 static int rounds = 16;
 static BOOLEAN is_short;
 
-static What control(int i, ULONG length) { return (What){ IRP_MJ_DEVICE_CONTROL, length, controls[i] }; }
-static What transfer(UCHAR major, ULONG length) { return (What){ major, length, 0 }; }
+/* A control is on its way while others come, and itself again. */
+static void use_overlapped_controls(PDEVICE_OBJECT top)
+{
+    Request first;
+    for (int i = 0; i < n_controls; i++) {
+        if (!start_request(&first, top, control(i, 16), PLAIN))
+            continue;
+        for (int j = 0; j < n_controls; j++) {
+            if (is_held(&first))
+                made(i == j ? SITUATION_CONTROL_ITSELF : SITUATION_CONTROL_MEETS);
+            if (j != i || is_held(&first))
+                make_request(top, control(j, 16), PLAIN, 5);
+        }
+        end_request(&first, 5);
+    }
+}
 
 /* Requests that meet: a read and each control are on their way while others come; the write that comes is longer. */
 static void use_overlapped(PDEVICE_OBJECT top)
 {
     Request first;
-    if (start_request(&first, top, transfer(IRP_MJ_READ, 16), KEPT)) {
-        make_request(top, transfer(IRP_MJ_WRITE, 40), PLAIN, PATIENT);
+    BOOLEAN is_kept = FALSE;
+    for (int i = 0; i < MOST_READS && !is_kept; i++) { /* what was written may have to be read first */
+        if (!start_request(&first, top, transfer(IRP_MJ_READ, i ? 4096 : 16), KEPT))
+            break;
+        is_kept = is_held(&first);
+        if (is_kept || i + 1 == MOST_READS)
+            make_request(top, transfer(IRP_MJ_WRITE, 40), PLAIN, PATIENT);
         end_request(&first, PATIENT);
     }
-    for (int i = 0; i < n_controls; i++) {
-        if (!start_request(&first, top, control(i, 16), PLAIN))
-            continue;
-        for (int j = 0; j < n_controls; j++)
-            if (j != i)
-                make_request(top, control(j, 16), PLAIN, 5);
-        end_request(&first, 5);
-    }
+    made_if(SITUATION_READ_MEETS, is_kept, held_none);
+    use_overlapped_controls(top);
 }
 
 /* Buffers that are short, odd and large. */
@@ -52,6 +66,7 @@ static void use_lengths(PDEVICE_OBJECT top)
         for (int i = 0; i < n_controls; i++)
             make_request(top, control(i, lengths[n]), PLAIN, SHORTLY);
     }
+    made(SITUATION_LENGTHS);
 }
 
 /* Cancels before a request is sent, while it is on its way, and after it was completed. */
@@ -64,14 +79,27 @@ static void use_cancels(PDEVICE_OBJECT top)
         for (int i = 0; i < n_controls; i++)
             make_request(top, control(i, 32), hows[n], SHORTLY);
     }
+    not_made(SITUATION_READ_CANCELLED, "each read was completed at once");
+    not_made(SITUATION_WRITE_CANCELLED, "each write was completed at once");
+    not_made(SITUATION_HELD_CANCELLED, held_none);
 }
 
-static void use(PDEVICE_OBJECT top, BOOLEAN finds)
+static void send_one(PDEVICE_OBJECT top, What what, Situation s)
 {
-    WdmSend(top, IRP_MJ_CREATE, 0, 0);
-    make_request(top, transfer(IRP_MJ_READ, 16), PLAIN, PATIENT);
-    make_request(top, transfer(IRP_MJ_WRITE, 16), PLAIN, PATIENT);
-    make_request(top, transfer(IRP_MJ_READ, 0), PLAIN, PATIENT);
+    make_request(top, what, PLAIN, PATIENT);
+    if (top->DriverObject->MajorFunction[what.major])
+        made(s);
+    else
+        not_there(s, "the uppermost driver has no dispatch for it");
+}
+
+/* Opens the device and uses it. */
+static Opened use(PDEVICE_OBJECT top, BOOLEAN finds)
+{
+    Opened o = open_it(top);
+    send_one(top, transfer(IRP_MJ_READ, 16), SITUATION_READ);
+    send_one(top, transfer(IRP_MJ_WRITE, 16), SITUATION_WRITTEN);
+    send_one(top, transfer(IRP_MJ_READ, 0), SITUATION_EMPTY);
     if (finds)
         find_controls(top);
     for (int i = 0; i < n_controls; i++)
@@ -80,16 +108,12 @@ static void use(PDEVICE_OBJECT top, BOOLEAN finds)
     if (!is_short)
         use_lengths(top);
     use_cancels(top);
-    make_request(top, (What){ IRP_MJ_INTERNAL_DEVICE_CONTROL, 16, 0x7ff << 2 }, PLAIN, PATIENT);
+    use_two_files(top, o);
+    send_one(top, (What){ IRP_MJ_INTERNAL_DEVICE_CONTROL, 16, 0x7ff << 2 }, SITUATION_INTERNAL);
     for (int i = 0; i < 2; i++) /* a bottom that fails does so at once, and later */
-        make_request(top, transfer(IRP_MJ_FLUSH_BUFFERS, 0), PLAIN, PATIENT);
-    make_request(top, transfer(IRP_MJ_SHUTDOWN, 0), PLAIN, PATIENT);
-}
-
-static void close_it(PDEVICE_OBJECT top)
-{
-    WdmSend(top, IRP_MJ_CLEANUP, 0, 0);
-    WdmSend(top, IRP_MJ_CLOSE, 0, 0);
+        send_one(top, transfer(IRP_MJ_FLUSH_BUFFERS, 0), SITUATION_FLUSHED);
+    send_one(top, transfer(IRP_MJ_SHUTDOWN, 0), SITUATION_SHUT_DOWN);
+    return o;
 }
 
 static void *use_often(void *number)
@@ -116,236 +140,98 @@ static void use_by_threads(PDEVICE_OBJECT top, int threads)
         pthread_join(t[i], NULL);
 }
 
-/* A device is asked whether it may stop, and goes on; it stops and starts, with its children; it is asked whether it may
-   go, and stays. */
-static void stop_and_start(PDEVICE_OBJECT bottom, PDEVICE_OBJECT top)
-{
-    WdmSend(top, IRP_MJ_PNP, IRP_MN_QUERY_STOP_DEVICE, 0);
-    WdmSend(top, IRP_MJ_PNP, IRP_MN_CANCEL_STOP_DEVICE, 0);
-    WdmStopAndStart(bottom);
-    WdmSend(top, IRP_MJ_PNP, IRP_MN_QUERY_REMOVE_DEVICE, 0);
-    WdmSend(top, IRP_MJ_PNP, IRP_MN_CANCEL_REMOVE_DEVICE, 0);
-}
-
-/* What another driver asks for, without a file, and doesn't cancel: what each request asks for, and whether the drivers
-   held it when it was sent. */
-typedef struct { Request request[MAX_ASKED]; What what[MAX_ASKED]; BOOLEAN was_held[MAX_ASKED]; int n; } Asked;
-
-/* What was passed down comes back. What is left is held by the drivers. */
-static void let_bottom_finish(PDEVICE_OBJECT bottom)
-{
-    LARGE_INTEGER moment = { .QuadPart = -10000 };
-    for (int i = 0; i < PATIENT && bottom_holds(bottom); i++)
-        KeDelayExecutionThread(KernelMode, FALSE, &moment);
-}
-
-static BOOLEAN is_held(Request *r) { return KeReadStateEvent(&r->done) == 0; }
-
-static void ask(Asked *a, PDEVICE_OBJECT bottom, PDEVICE_OBJECT top, What what)
-{
-    Request *const r = &a->request[a->n];
-    if (a->n == MAX_ASKED || !start_request(r, top, what, WITHOUT_FILE))
-        return;
-    let_bottom_finish(bottom);
-    a->was_held[a->n] = is_held(r);
-    a->what[a->n++] = what;
-}
-
-/* A driver may end one request when another one comes: what it held is asked for again, so that it holds one at the end.
-   Where a driver looks at files it may want one, and then Windows doesn't remove the device. */
-static void ask_without_file(Asked *a, PDEVICE_OBJECT bottom, PDEVICE_OBJECT top)
-{
-    a->n = 0;
-    if (getenv("WDM_FILES"))
-        return;
-    ask(a, bottom, top, transfer(IRP_MJ_WRITE, 16));
-    for (int i = 0; i < n_controls && i < MAX_ASKED / 2 - 2; i++)
-        ask(a, bottom, top, control(i, 16));
-    ask(a, bottom, top, transfer(IRP_MJ_READ, 16));
-    const int n = a->n;
-    for (int i = 0; i < n; i++)
-        if (a->was_held[i] && !is_held(&a->request[i]))
-            ask(a, bottom, top, a->what[i]);
-}
-
-static void end_asked(Asked *a)
-{
-    for (int i = 0; i < a->n; i++)
-        end_request(&a->request[i], PATIENT);
-}
-
-static BOOLEAN is_any_held(Asked *a)
-{
-    for (int i = 0; i < a->n; i++)
-        if (is_held(&a->request[i]))
-            return TRUE;
-    return FALSE;
-}
-
-/* The device is gone while requests are under way; who has it open closes it, and only then it is removed. What drivers
-   elsewhere have asked for, without a file, is there until then: where a driver holds that, no write comes that may end it. */
-static void remove_by_surprise(PDEVICE_OBJECT bottom, PDEVICE_OBJECT top)
-{
-    Asked asked;
-    Request read, write;
-    ask_without_file(&asked, bottom, top);
-    const BOOLEAN writes = !is_any_held(&asked) && start_request(&write, top, transfer(IRP_MJ_WRITE, 16), KEPT);
-    const BOOLEAN reads = start_request(&read, top, transfer(IRP_MJ_READ, 16), PLAIN);
-    WdmSurprise(bottom);
-    if (reads)
-        end_request(&read, PATIENT);
-    if (writes)
-        end_request(&write, PATIENT);
-    close_it(top);
-    let_bottom_finish(bottom);
-    for (int i = 0; i < asked.n; i++)
-        if (is_held(&asked.request[i]))
-            WdmTellKept(asked.request[i].irp);
-    WdmRemove(bottom);
-    end_asked(&asked);
-}
-
-/* A read that a driver elsewhere sends while IRP_MN_REMOVE_DEVICE is at the bottom. It has a reference to the device until
-   its call returns. */
-static struct { PDEVICE_OBJECT top; pthread_t thread; KEVENT has_returned; BOOLEAN is_begun, is_sent; Request read; } during;
-
-static void *read_during(void *unused)
-{
-    during.is_sent = start_request(&during.read, during.top, transfer(IRP_MJ_READ, 16), WITHOUT_FILE);
-    ObDereferenceObject(during.top);
-    KeSetEvent(&during.has_returned, IO_NO_INCREMENT, FALSE);
-    return unused;
-}
-
-static void removal_is_below(void)
-{
-    LARGE_INTEGER limit = { .QuadPart = -10000LL * PATIENT };
-    at_removal = NULL;
-    ObReferenceObject(during.top);
-    during.is_begun = !pthread_create(&during.thread, NULL, read_during, NULL);
-    if (during.is_begun)
-        KeWaitForSingleObject(&during.has_returned, Executive, KernelMode, FALSE, &limit);
-}
-
-/* Where each driver has a remove lock, a read comes meanwhile: it is what such locks are for. */
-static void unplug_while_read(PDEVICE_OBJECT bottom, PDEVICE_OBJECT top)
-{
-    during.top = top;
-    during.is_begun = during.is_sent = FALSE;
-    KeInitializeEvent(&during.has_returned, NotificationEvent, FALSE);
-    at_removal = removal_is_below;
-    WdmUnplug(bottom, FALSE);
-    at_removal = NULL;
-    if (during.is_begun)
-        pthread_join(during.thread, NULL);
-    if (during.is_sent)
-        end_request(&during.read, PATIENT);
-}
-
-/* Nobody has the device open. What is held in it is ended by its removal. */
-static void remove_in_order(PDEVICE_OBJECT bottom, PDEVICE_OBJECT top, BOOLEAN is_read)
-{
-    Asked asked;
-    close_it(top);
-    ask_without_file(&asked, bottom, top);
-    set_power(top, IRP_MN_QUERY_POWER, PowerDeviceD3);
-    set_power(top, IRP_MN_SET_POWER, PowerDeviceD3);
-    if (is_read && !getenv("WDM_FILES") && WdmHaveRemoveLocks(top, bottom))
-        unplug_while_read(bottom, top);
-    else
-        WdmUnplug(bottom, FALSE);
-    end_asked(&asked);
-}
-
-/* The system falls asleep and wakes while a read is under way: children sleep first, and wake last. */
-static void sleep_and_wake(PDEVICE_OBJECT bottom, PDEVICE_OBJECT top)
-{
-    PDEVICE_OBJECT order[MAX_CHILDREN + 1];
-    Request read;
-    const BOOLEAN reads = start_request(&read, top, transfer(IRP_MJ_READ, 16), PLAIN);
-    ULONG n = WdmGetChildren(bottom, order, MAX_CHILDREN), asked = 0;
-    for (ULONG i = 0; i < n; i++)
-        order[i] = IoGetAttachedDevice(order[i]);
-    order[n++] = top;
-    while (asked < n && NT_SUCCESS(set_system_power(order[asked], IRP_MN_QUERY_POWER, PowerSystemSleeping3)))
-        asked++;
-    for (ULONG i = 0; asked == n && i < n; i++)
-        set_system_power(order[i], IRP_MN_SET_POWER, PowerSystemSleeping3);
-    while (n)
-        set_system_power(order[--n], IRP_MN_SET_POWER, PowerSystemWorking);
-    if (reads)
-        end_request(&read, PATIENT);
-}
-
 /* The children that a bus has reported are used as it is, one behind the other. */
-static void use_children(PDEVICE_OBJECT bottom)
+static void use_children(void)
 {
     PDEVICE_OBJECT children[MAX_CHILDREN];
     const ULONG n = WdmGetChildren(bottom, children, MAX_CHILDREN);
-    for (ULONG i = 0; i < n; i++) {
-        use(IoGetAttachedDevice(children[i]), FALSE);
-        close_it(IoGetAttachedDevice(children[i]));
-    }
+    for (ULONG i = 0; i < n; i++)
+        close_it(use(IoGetAttachedDevice(children[i]), FALSE));
+    if (n)
+        made(SITUATION_CHILDREN);
+    else
+        not_there(SITUATION_CHILDREN, "no driver reports children");
 }
 
-static void use_started(PDEVICE_OBJECT bottom, ULONG style, int threads)
+static void use_started(ULONG style, int threads)
 {
     PDEVICE_OBJECT top = IoGetAttachedDevice(bottom);
     WdmSend(top, IRP_MJ_PNP, UNKNOWN_MINOR, 0); /* a request that no driver knows */
+    made(SITUATION_UNKNOWN_PNP);
     WdmSend(top, IRP_MJ_SYSTEM_CONTROL, IRP_MN_REGINFO, 0);
+    made(SITUATION_WMI);
     set_power(top, IRP_MN_SET_POWER, PowerDeviceD0);
-    use(top, !style);
-    use_children(bottom);
+    Opened o = use(top, !style);
+    use_children();
     if (threads > 1)
         use_by_threads(top, threads);
-    sleep_and_wake(bottom, top);
-    if (!style && !is_short)
-        stop_and_start(bottom, top);
+    sleep_and_wake(top);
+    if (!style && !is_short) {
+        use_in_d3(top);
+        stop_in_use(top);
+    }
     if (style == WDM_BOTTOM_LATE)
-        remove_by_surprise(bottom, top);
+        remove_by_surprise(top, o);
     else
-        remove_in_order(bottom, top, !style);
+        remove_in_order(top, o, !style);
 }
 
-static void use_stack(ULONG style, int threads)
+static void use_stack(ULONG style, Situation its, int threads)
 {
-    PDEVICE_OBJECT bottom = WdmCreateBottomOf(style);
+    bottom = WdmCreateBottomOf(style);
     if (!bottom)
         return;
     for (int i = 0; i < wdm_n_drivers; i++)
         if (loaded[i] && loaded[i]->DriverExtension->AddDevice && !is_on_children[i])
             WdmAddDevice(loaded[i], bottom);
     const BOOLEAN is_stack = IoGetAttachedDevice(bottom) != bottom;
-    if (is_stack && NT_SUCCESS(WdmPlugIn(bottom)))
-        use_started(bottom, style, threads);
+    const BOOLEAN starts = is_stack && NT_SUCCESS(WdmPlugIn(bottom));
+    if (is_stack)
+        made_if(its, starts || style == WDM_BOTTOM_NO_START, "IRP_MN_START_DEVICE fails");
+    if (starts)
+        use_started(style, threads);
     else if (is_stack)
         WdmRemove(bottom);
-    IoDeleteDevice(bottom);
+    PDEVICE_OBJECT its_own = bottom;
+    bottom = NULL;
+    IoDeleteDevice(its_own);
 }
 
 /* A driver that made its device in DriverEntry. */
 static void use_device(PDEVICE_OBJECT device, int threads)
 {
-    use(device, TRUE);
+    Opened o = use(device, TRUE);
     if (threads > 1)
         use_by_threads(device, threads);
-    close_it(device);
+    close_it(o);
+}
+
+/* The drivers are loaded. */
+static void load_all(void)
+{
+    BOOLEAN has_stack = FALSE;
+    for (int i = 0; i < wdm_n_drivers && i < 64; i++) {
+        loaded[i] = WdmLoadDriver(wdm_drivers[i].name, wdm_drivers[i].entry);
+        is_on_children[i] = loaded[i] && WdmGoesOnChildren(wdm_drivers[i].name, loaded[i]);
+        has_stack |= loaded[i] && loaded[i]->DriverExtension->AddDevice && !is_on_children[i];
+    }
+    begin_situations(has_stack, !getenv("WDM_HOLDS_NONE"));
 }
 
 int main(void)
 {
-    static const ULONG styles[] = { 0, WDM_BOTTOM_LATE, WDM_BOTTOM_LATE | WDM_BOTTOM_PENDS_ALL, WDM_BOTTOM_FAILS,
-                                    WDM_BOTTOM_NO_START };
+    static const struct { ULONG style; Situation its; } bottoms[] = {
+        { 0, SITUATION_AT_ONCE }, { WDM_BOTTOM_LATE, SITUATION_LATER },
+        { WDM_BOTTOM_LATE | WDM_BOTTOM_PENDS_ALL, SITUATION_PENDS_ALL }, { WDM_BOTTOM_FAILS, SITUATION_FAILS },
+        { WDM_BOTTOM_NO_START, SITUATION_NO_START } };
     const char *number = getenv("WDM_THREADS");
     const int threads = number ? atoi(number) : 1;
     is_short = getenv("WDM_SHORT") != NULL;
     read_controls();
-    for (int i = 0; i < wdm_n_drivers && i < 64; i++) {
-        loaded[i] = WdmLoadDriver(wdm_drivers[i].name, wdm_drivers[i].entry);
-        is_on_children[i] = loaded[i] && WdmGoesOnChildren(wdm_drivers[i].name, loaded[i]);
-    }
-    for (size_t i = 0; i < (is_short ? 2 : ARRAYSIZE(styles)); i++)
-        use_stack(styles[i], threads);
+    load_all();
+    for (size_t i = 0; i < ARRAYSIZE(bottoms); i++)
+        if (!is_short || i < 2)
+            use_stack(bottoms[i].style, bottoms[i].its, threads);
     for (int i = 0; i < wdm_n_drivers && i < 64; i++) {
         if (loaded[i] && loaded[i]->DeviceObject && !loaded[i]->DriverExtension->AddDevice)
             use_device(loaded[i]->DeviceObject, threads);

@@ -1,16 +1,18 @@
 /*
  * explore.c: makes every order within a bound, or one that is given, from before `main` on.
  *
- * WDM_EXPLORE is the most preemptions (-1: only the run by the usual order), WDM_SCHEDULE a schedule, WDM_CHANCE a seed. `run` sets them, and reads the report.
+ * WDM_EXPLORE is the most preemptions (-1: only the run by the usual order), WDM_SCHEDULE a schedule, WDM_CHANCE a seed.
+ * With WDM_FURTHER one preemption more is allowed where that is quick; WDM_FORKS says why there are no snapshots. `run` sets
+ * them, and reads the report.
  */
-#include "explore.h"
+#include "snapshots.h"
 #include <fcntl.h>
 #include <sys/mman.h>
 #include <sys/wait.h>
 #include <unistd.h>
 
-enum { MOST_PREEMPTIONS = 16, LEAST_SLOTS = 1 << 16, MOST_SLOTS = 1 << 27 };
-typedef enum { ALL_MADE, FAILED, STOPPED, FULL } Ended;
+enum { MOST_PREEMPTIONS = 16, SECONDS_TO_END = 20 };
+typedef enum { ALL_MADE, FAILED, STOPPED } Ended;
 Shared *shared;
 static FILE *report;
 static double began, most_seconds;
@@ -26,34 +28,10 @@ static double seconds(void)
     return (double)t.tv_sec + (double)t.tv_nsec / 1e9;
 }
 
-static void *share(size_t size)
-{
-    void *p = mmap(NULL, size, PROT_READ | PROT_WRITE, MAP_SHARED | MAP_ANONYMOUS | MAP_NORESERVE, -1, 0);
-    if (p == MAP_FAILED) {
-        perror("explore: no memory");
-        _exit(2);
-    }
-    return p;
-}
-
 static long number(const char *name, long otherwise)
 {
     const char *text = getenv(name);
     return text && *text ? strtol(text, NULL, 10) : otherwise;
-}
-
-/* Returns whether the hash wasn't in the set. A full set takes nothing more. */
-bool put_in(_Atomic uint64_t *set, uint64_t hash)
-{
-    hash |= 1;
-    for (size_t i = hash >> 20, n = 0; n < MAX_SET; i++, n++) {
-        uint64_t none = 0;
-        if (atomic_compare_exchange_strong(&set[i % MAX_SET], &none, hash))
-            return true;
-        if (none == hash)
-            return false;
-    }
-    return false;
 }
 
 /* A place whose access was seen to race is a point from the next start on. */
@@ -72,31 +50,15 @@ void place_races(uint32_t place)
     shared->order = TO_START_OVER;
 }
 
-/* Makes shared memory zeros again. */
-static void empty(void *memory, size_t size)
-{
-    if (madvise(memory, size, MADV_REMOVE))
-        memset(memory, 0, size);
-}
-
-/* The states of a round are its own. Their table has room for some times as many as the round before had. */
-static void empty_states(void)
-{
-    const size_t wanted = shared->n_states * 64;
-    empty((void *)shared->states, shared->n_slots * sizeof *shared->states);
-    while (shared->n_slots < wanted && shared->n_slots < MOST_SLOTS)
-        shared->n_slots *= 2;
-    shared->n_states = 0;
-}
-
 static void begin_round(int bound)
 {
-    empty_states();
-    empty((void *)shared->classes, MAX_SET * sizeof *shared->classes);
-    empty(shared->outcomes, MAX_OUTCOMES * sizeof *shared->outcomes);
+    empty_set(&shared->states);
+    empty_set(&shared->classes);
+    empty_shared(shared->outcomes, MAX_OUTCOMES * sizeof *shared->outcomes);
     shared->bound = bound;
     shared->order = GOES_ON;
     shared->busy = 1;
+    shared->n_begun = shared->n_ended = 0;
     shared->runs = shared->cut = shared->beyond = shared->begun = shared->n_classes = shared->n_failed = 0;
     shared->n_active = shared->n_racy < MAX_RACY ? shared->n_racy : MAX_RACY;
     memcpy(shared->is_point, shared->is_racy, sizeof shared->is_point);
@@ -149,8 +111,10 @@ static void watch(pid_t child)
         show_progress();
         if (most_seconds > 0 && seconds() - began > most_seconds)
             shared->order = TO_STOP;
+        if (most_seconds > 0 && seconds() - began > most_seconds + SECONDS_TO_END)
+            kill(child, SIGKILL); /* it waits for the system, for ever */
     }
-    if (WIFSIGNALED(status) && shared->order == GOES_ON) {
+    if (WIFSIGNALED(status) && shared->order == GOES_ON && shared->forks) {
         const Schedule none = { .n = 0 };
         note_failure(&none, 0, "the run by the usual order crashes");
     }
@@ -172,14 +136,13 @@ static Ended run_round(int bound)
         return ALL_MADE;
     }
     watch(child);
-    return shared->has_failed && !shared->goes_on ? FAILED : shared->n_states > shared->n_slots / 2 ? FULL :
-        shared->order == TO_STOP ? STOPPED : ALL_MADE;
+    return shared->has_failed && !shared->goes_on ? FAILED : shared->order == TO_STOP ? STOPPED : ALL_MADE;
 }
 
 static void tell_round(const char *how)
 {
     fprintf(report, "%s %d runs %lu cut %lu classes %lu states %lu beyond %lu begun %lu expected %lu seconds %.2f\n", how,
-            shared->bound, shared->runs, shared->cut, shared->n_classes, shared->n_states, shared->beyond, shared->begun,
+            shared->bound, shared->runs, shared->cut, shared->n_classes, shared->states.n, shared->beyond, shared->begun,
             expected, seconds() - began);
     fflush(report);
 }
@@ -214,29 +177,45 @@ static void tell_outcomes(void)
 static void write_classes(const char *path)
 {
     FILE *out = path ? fopen(path, "w") : NULL;
-    for (size_t i = 0; out && i < MAX_SET; i++)
-        if (shared->classes[i])
-            fprintf(out, "%016lx\n", (unsigned long)shared->classes[i]);
-    if (out)
-        fclose(out);
+    if (!out)
+        return;
+    write_set(&shared->classes, out);
+    fclose(out);
 }
 
 static void end_exploration(Ended ended)
 {
-    static const char *const words[] = { "done", "failed", "stopped", "full" };
-    static const int statuses[] = { 0, 1, 3, 3 };
+    static const char *const words[] = { "done", "failed", "stopped" };
+    static const int statuses[] = { 0, 1, 3 };
     tell_outcomes();
     tell_places();
     write_classes(getenv("WDM_CLASSES"));
     fprintf(report, "restarts %d\nmost_decisions %lu\nmost_points %lu\nfailed_runs %lu\n", n_restarts,
             shared->most_decisions, shared->most_points, shared->n_failed);
+    if (shared->n_limited)
+        fprintf(report, "limited %lu %s\n", shared->n_limited, shared->limit);
+    if (shared->forks)
+        fprintf(report, "forks %s\n", shared->forks);
     if (ended == FAILED)
         fprintf(report, "cost %d\nschedule %s\nwhy %s\n", shared->cost, schedule_text(&shared->failed), shared->why);
     fprintf(report, "ended %s\n", words[ended]);
+    write_covered(report);
     fclose(report);
     if (isatty(2))
         fputs("\r\033[K", stderr);
     _exit(statuses[ended]);
+}
+
+static void make_forks(const char *why)
+{
+    shared->forks = why;
+    shared->has_failed = 0;
+}
+
+/* A process that goes back has ended in a way that was no end of a run: what it had to make is lost. */
+static bool is_process_lost(void)
+{
+    return shared->n_begun != shared->n_ended && (shared->order == GOES_ON || shared->has_failed);
 }
 
 /* The run by the usual order alone, for an estimate. Returns in its process. */
@@ -251,6 +230,12 @@ static void run_first(void)
     _exit(0);
 }
 
+/* With WDM_FURTHER one more preemption is allowed, where all so far took less than a second. */
+static bool goes_further(int bound, int most)
+{
+    return bound == most + 1 && number("WDM_FURTHER", 0) && seconds() - began < 1;
+}
+
 /* Returns in the processes that go on into `main`. */
 static void explore_all(int most)
 {
@@ -258,10 +243,14 @@ static void explore_all(int most)
         run_first();
         return;
     }
-    for (int bound = 0; bound <= most;) {
+    for (int bound = 0; bound <= most || goes_further(bound, most);) {
         const Ended ended = run_round(bound);
         if (is_child)
             return;
+        if (is_process_lost()) {
+            make_forks("a run ended in a way that isn't known, or left something in the system");
+            continue;
+        }
         if (ended != FAILED && shared->order == TO_START_OVER) {
             n_restarts++;
             bound = 0;
@@ -276,18 +265,31 @@ static void explore_all(int most)
     end_exploration(ALL_MADE);
 }
 
+/* Returns why each choice needs a process of its own, or NULL. */
+static const char *why_forks(void)
+{
+    extern void __gcov_dump(void) __attribute__((weak));
+    if (getenv("WDM_FORKS"))
+        return getenv("WDM_FORKS");
+    if (!can_make_snapshots())
+        return "this machine's processor isn't an x86-64";
+    if (getenv("WDM_PAGE_ENDS"))
+        return "pages that pool blocks end at aren't put back";
+    return __gcov_dump ? "counts of lines that ran would be put back" : NULL;
+}
+
 static void set_up(void)
 {
     const char *path = getenv("WDM_REPORT");
     shared = share(sizeof *shared);
-    shared->n_slots = LEAST_SLOTS;
-    shared->states = share(MOST_SLOTS * sizeof *shared->states);
-    shared->classes = share(MAX_SET * sizeof *shared->classes);
-    shared->transcripts = share(MAX_SET * sizeof *shared->transcripts);
+    make_set(&shared->states);
+    make_set(&shared->classes);
+    make_set(&shared->transcripts);
     shared->outcomes = share(MAX_OUTCOMES * sizeof *shared->outcomes);
     shared->processes = (int)number("WDM_PROCESSES", sysconf(_SC_NPROCESSORS_ONLN));
     shared->reduces = number("WDM_REDUCE", 1) && hooks_present;
     shared->goes_on = number("WDM_GO_ON", 0);
+    make_forks(why_forks());
     shared->part = (int)number("WDM_PART", 0);
     shared->parts = (int)number("WDM_PARTS", 0);
     most_seconds = (double)number("WDM_SECONDS", 0);

@@ -11,13 +11,13 @@
 
 bool footprints, hooks_present;
 typedef struct { const void *object; uint64_t written, read; uint32_t clock[FEW_THREADS]; } Object;
-enum { OBJECTS = 1 << 15, PLACES = 1 << 16, FEWEST_PLACES = 1 << 11, ROOM = 4 << 20 };
+enum { OBJECTS = 1 << 18, PLACES = 1 << 19, FEWEST_PLACES = 1 << 10, ROOM = 4 << 20 };
 static const uintptr_t MEMORY = 0x200000000000;
 static const uint64_t GOLDEN = 0x9E3779B97F4A7C15u;
 /* Dense, since each page that a run touches is a fault: most runs have few threads. */
 static Object objects[OBJECTS];
 static uint32_t other_clocks[OBJECTS][MAX_THREADS - FEW_THREADS];
-static uint16_t place_of_object[PLACES];
+static uint32_t place_of_object[PLACES];
 static size_t n_places = FEWEST_PLACES; /* of those that are used: a power of two, so that a small run touches one page */
 static int n_objects;
 static uint64_t past[MAX_THREADS], n_named[MAX_THREADS];
@@ -32,7 +32,7 @@ static uint64_t mix(uint64_t a, uint64_t b)
 
 static size_t place_for(const void *object)
 {
-    size_t i = ((uintptr_t)object * GOLDEN) >> 48 & (n_places - 1);
+    size_t i = ((uintptr_t)object * GOLDEN) >> 44 & (n_places - 1);
     while (place_of_object[i] && objects[place_of_object[i]].object != object)
         i = (i + 1) & (n_places - 1);
     return i;
@@ -43,14 +43,14 @@ static void use_more_places(void)
     memset(place_of_object, 0, n_places * sizeof *place_of_object);
     n_places *= 2;
     for (int n = 1; n < n_objects; n++)
-        place_of_object[place_for(objects[n].object)] = (uint16_t)n;
+        place_of_object[place_for(objects[n].object)] = (uint32_t)n;
 }
 
 /* One of all orders can't be told from another one without footprints. Any other run goes on without them. */
 void look_no_further(const char *why)
 {
     if (is_exploring)
-        give_up(why);
+        reach_limit(why);
     if (!footprints)
         return;
     footprints = false;
@@ -63,7 +63,7 @@ static Object *object_of(const void *object)
     if (place_of_object[i])
         return &objects[place_of_object[i]];
     if (n_objects + 1 == OBJECTS) {
-        look_no_further("a run touches more than 32,767 objects: make its test smaller");
+        look_no_further("a run touches more than 262,143 objects: make its test smaller");
         objects[0] = (Object){ .object = object };
         return &objects[0];
     }
@@ -71,30 +71,36 @@ static Object *object_of(const void *object)
     objects[n_objects].object = object;
     if ((size_t)n_objects * 2 > n_places)
         use_more_places();
-    place_of_object[place_for(object)] = (uint16_t)n_objects;
+    place_of_object[place_for(object)] = (uint32_t)n_objects;
     return &objects[n_objects];
 }
 
 /* A name for a packet: by the thread that allocates it, and how many that allocated before. */
 uint64_t next_name(void) { return 1ull << 40 | (uint64_t)current_thread() << 20 | n_named[current_thread()]++; }
 
+static char *all_memory;
+
+void map_host_memory(void)
+{
+    if (!all_memory)
+        all_memory = mmap((void *)MEMORY, (size_t)MAX_THREADS * ROOM, PROT_READ | PROT_WRITE,
+                          MAP_PRIVATE | MAP_ANONYMOUS | MAP_NORESERVE, -1, 0);
+    if (all_memory == MAP_FAILED)
+        give_up("out of memory");
+}
+
 /* Memory whose address doesn't depend on what other threads do, with its length in front. It is never used again. */
 void *host_memory(size_t size)
 {
-    static char *all;
     static size_t used[MAX_THREADS];
     const int t = current_thread();
     if (!by_schedule)
         return calloc(1, size);
-    if (!all)
-        all = mmap((void *)MEMORY, (size_t)MAX_THREADS * ROOM, PROT_READ | PROT_WRITE,
-                   MAP_PRIVATE | MAP_ANONYMOUS | MAP_NORESERVE, -1, 0);
-    if (all == MAP_FAILED)
-        give_up("out of memory");
+    map_host_memory();
     const size_t whole = (size + 31) & ~(size_t)15;
     if (used[t] + whole > ROOM)
         return NULL;
-    char *p = all + (size_t)t * ROOM + used[t];
+    char *p = all_memory + (size_t)t * ROOM + used[t];
     used[t] += whole;
     *(size_t *)p = whole - 16;
     return p + 16;
@@ -186,7 +192,7 @@ void passed(const char *what, int line)
 
 void thread_born(int parent, int child)
 {
-    past[child] = mix(past[parent], 77);
+    past[child] = mix(past[parent], past[child] + 77); /* of a place that another thread had, what that did counts on */
     clocks_born(parent, child);
 }
 

@@ -7,10 +7,10 @@ void check_gone(const void *from, size_t size, const char *what)
     PKDPC dpc;
     packets_go(from, size);
     while ((timer = take_timer_in(from, size)))
-        broken("TimerInFreedMemory", NULL, "the timer that was set at %s is armed, in the %s", place(timer->HostSet), what);
+        broken("TimerInFreedMemory", NULL, "the timer that was set at %s is armed, in the %s", place(*timer->HostSet), what);
     while ((dpc = take_dpc_in(from, size)))
         broken("DpcInFreedMemory", NULL, "the deferred call %s is queued since %s, in the %s",
-               function_name((void *)dpc->Routine), place(dpc->HostQueued), what);
+               function_name((void *)dpc->DeferredRoutine), place(*dpc->HostQueued), what);
     WDM_SITE at;
     if (waited_in(from, size, &at))
         broken("UsedInFreedMemory", NULL, "a thread waits since %s, for an object in the %s", place(at), what);

@@ -9,12 +9,57 @@ bool is_cancelled_and_held(const Packet *p)
     return lives(p) && p->owner >= 0 && p->cancel && !p->routine && !p->asking;
 }
 
+/* The last call of the dispatch by which its owner came to hold the packet, or no place. */
+static CallSite held_since(const Packet *p)
+{
+    for (size_t i = n_history; i-- > 0;)
+        for (int j = history[i]->p == p && history[i]->use == p->use ? history[i]->n : 0; j-- > 0;) {
+            const Asked *a = &history[i]->asked[j];
+            if (a->kind == DISPATCH && a->device == p->owner && a->at.site.file)
+                return a->at;
+        }
+    return (CallSite){ .call = NULL };
+}
+
+/* Where the holder set its cancel routine; else its own last call, where the sender is the host's test; else the send. */
+static CallSite holders_call(const Packet *p)
+{
+    if (p->sites.cancel.file)
+        return (CallSite){ p->sites.cancel, "IoSetCancelRoutine" };
+    const CallSite held = is_hosts_file(p->sites.sent.file) ? held_since(p) : (CallSite){ .call = NULL };
+    return held.call ? held : (CallSite){ p->sites.sent, "IoCallDriver" };
+}
+
+/* A completion routine of the holder's has kept it, and the holder hasn't made it cancelable since. */
+static bool is_lost_by_routine(const Packet *p)
+{
+    return p->kept_by && !p->ran &&
+        (!p->sites.cancel.file || driver_of_file(p->sites.cancel.file) != devices[p->owner].driver->HostNumber);
+}
+
+static void tell_lost_by_routine(const Packet *p)
+{
+    char where[200]; /* `run` has the line in place of the address */
+    snprintf(where, sizeof where, "+0x%lx in %s", place_in_program(p->kept_by), function_name(p->kept_by));
+    Call *const calls = self.calls, here = { .name = where, .by = p->kept_by };
+    Frame *const frames = self.frames;
+    self.calls = (Call *)&here;
+    self.frames = NULL;
+    fault("CancelledAndHeld", p, "was cancelled, and %s still holds it: its completion routine answered "
+          "STATUS_MORE_PROCESSING_REQUIRED, and nobody has completed it since. Sent at %s", who(p->owner), place(p->sites.sent));
+    self.calls = calls;
+    self.frames = frames;
+}
+
 void tell_cancelled_and_held(const Packet *p)
 {
-    const bool was_set = p->sites.cancel.file != NULL;
-    fault_at("CancelledAndHeld", p, was_set ? "IoSetCancelRoutine" : "IoCallDriver",
-             was_set ? p->sites.cancel : p->sites.sent, "was cancelled, and %s still holds it: %s%s. Sent at %s",
-             who(p->owner), p->ran ? "its cancel routine has run, and hasn't completed it: " :
+    if (is_lost_by_routine(p)) {
+        tell_lost_by_routine(p);
+        return;
+    }
+    const CallSite by = holders_call(p);
+    fault_at("CancelledAndHeld", p, by.call, by.site, "was cancelled, and %s still holds it: %s%s. Sent at %s", who(p->owner),
+             p->ran ? "its cancel routine has run, and hasn't completed it: " :
              "no cancel routine is set. if (Irp->Cancel && IoSetCancelRoutine(Irp, NULL) != NULL) complete it",
              p->ran ? function_name((void *)p->ran) : "", place(p->sites.sent));
 }
@@ -35,9 +80,9 @@ VOID WdmTellKept(PIRP Irp)
     const Packet *p = find(Irp);
     const Kept kept = { p, p->use };
     if (lives(p) && !wait_for_host(is_let_go, &kept) && p->owner >= 0 && !is_bottom(devices[p->owner].raw)) {
-        const bool was_set = p->sites.cancel.file != NULL;
-        c.name = was_set ? "IoSetCancelRoutine" : "IoCallDriver";
-        c.at = was_set ? p->sites.cancel : p->sites.sent;
+        const CallSite by = holders_call(p);
+        c.name = by.call;
+        c.at = by.site;
         broken("KeptOverSurprise", p, "%s still holds it when IRP_MN_SURPRISE_REMOVAL is over. Sent at %s", who(p->owner),
                place(p->sites.sent));
     }
@@ -156,8 +201,8 @@ void hang(Woken why, unsigned long began, WDM_SITE at)
             if (is_cancelled_and_held(packets[i]))
                 tell_cancelled_and_held(packets[i]);
         tell_in_flight(text, sizeof text);
-        fault("Hang", NULL, why == OVERDUE ? "waits, and no thread ends the wait, while other threads go on; %s" :
-              "waits, and no thread will end the wait; %s", text);
+        fault("Hang", NULL, why == OVERDUE ? "waits, and no thread ends the wait, while other threads go on; %s%s" :
+              "waits, and no thread will end the wait; %s%s", text, never_set());
     }
     const bool goes_on = complete_lost();
     if (!goes_on)

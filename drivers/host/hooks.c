@@ -17,6 +17,8 @@ static void access_at(const void *address, size_t size, bool writes, const void 
         return;
     if (shared->is_point[(uint16_t)((const char *)pc - &__executable_start)])
         point_by_schedule(writes ? "a write that races" : "a read that races", (WDM_SITE){ 0 }, pc);
+    if (!footprints) /* what orders accesses isn't seen any more, so that none may be said to race */
+        return;
     const void *page = packet_page(address);
     if (page) {
         touch(page, writes ? WRITES : READS);
@@ -34,6 +36,8 @@ static void atomic_at(const volatile void *address, bool writes, const void *pc)
     if (!by_schedule)
         return;
     point_by_schedule(writes ? "an interlocked access" : "an atomic read", (WDM_SITE){ 0 }, pc);
+    if (!footprints)
+        return;
     const void *page = packet_page((const void *)address);
     if (page)
         touch(page, writes ? WRITES : READS);

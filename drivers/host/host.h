@@ -166,6 +166,10 @@ struct Packet {
     Preparation prep;
     PDRIVER_CANCEL routine, ghost; /* ghost: a routine that came after the cancel, and hasn't been taken back */
     PDRIVER_CANCEL ran;            /* the cancel routine that was called */
+    PFILE_OBJECT file;             /* of the location with which it was sent, or NULL */
+    uint64_t held_at_cleanup;      /* the use in which a driver held it when CLEANUP of its file was sent */
+    KPROCESSOR_MODE mode;          /* of who asked for it */
+    PDRIVER_CANCEL own_cancel;     /* unsent.c: its originator's, while that has it */
     Setting *want;
     Frame *asking; /* who is asked about it and hasn't decided */
     Entry *open;
@@ -180,7 +184,12 @@ struct Packet {
     bool scratch;      /* its topmost location is its allocator's own (IoSetNextIrpStackLocation) */
     ULONG room;        /* what was built has room for so many bytes there, to be copied to UserBuffer */
     bool status_is_gone, event_is_gone; /* its IoStatusBlock or event lies where nobody may write any more */
+    bool has_pattern; /* unwritten.c: a pattern lies behind its input */
     bool writes_back, is_built; /* is_built: by the I/O manager, which frees it at its end */
+    bool lends; /* mdl.c: its buffer and its MDL are for whoever had it built to free */
+    PMDL lent;  /* the MDL */
+    bool threaded, failed_at_once; /* built.c: it is on the list of the thread that had it built; its end sets no event */
+    const void *never_set;         /* which event that is */
     bool trapped, touch_untold, touched_by_sender;
     bool watched; /* watching.c: its page is closed, until somebody touches it */
     bool shut;    /* traps.c: its page is closed for good: it has ended, or is free */
@@ -280,6 +289,10 @@ __attribute__((format(printf, 5, 6))) void fault_at(const char *rule, const Pack
 __attribute__((format(printf, 2, 3))) void note(const char *key, const char *how, ...);
 __attribute__((noreturn)) void give_up(const char *why);
 __attribute__((noreturn)) void stop_run(const char *why);
+/* limits.c: the run ends here, since the host does no more; why, or NULL. */
+__attribute__((noreturn)) void reach_limit(const char *what);
+const char *limit_reached(void);
+size_t write_out(void);
 void tell_repeats(void);
 bool is_expected_refusal(const char *name);
 size_t expected_entries(void);

@@ -249,3 +249,27 @@ LARGE_INTEGER KeQueryPerformanceCounter(PLARGE_INTEGER Frequency)
         Frequency->QuadPart = 10000000;
     return (LARGE_INTEGER){ .QuadPart = now_in_100ns() };
 }
+
+/* Where this thread's stack begins and ends: the mapping that has it. */
+VOID IoGetStackLimits(PULONG_PTR Low, PULONG_PTR High)
+{
+    const ULONG_PTR here = (ULONG_PTR)__builtin_frame_address(0);
+    unsigned long low, high;
+    FILE *maps = fopen("/proc/self/maps", "r");
+    *Low = here & ~(ULONG_PTR)(PAGE - 1);
+    *High = *Low + PAGE;
+    while (maps && fscanf(maps, "%lx-%lx%*[^\n]", &low, &high) == 2)
+        if (low <= here && here < high) {
+            *Low = low;
+            *High = high;
+        }
+    if (maps)
+        fclose(maps);
+}
+
+ULONG_PTR IoGetRemainingStackSize(VOID)
+{
+    ULONG_PTR low, high;
+    IoGetStackLimits(&low, &high);
+    return (ULONG_PTR)__builtin_frame_address(0) - low;
+}

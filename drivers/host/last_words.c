@@ -5,7 +5,7 @@
  * A handler may find the host's lock or the allocator's taken. So it tells the place first, takes the lock for a short
  * time only, and ends the process where the rest takes too long.
  */
-#include "schedule.h"
+#include "snapshots.h"
 #include <dlfcn.h>
 #include <signal.h>
 #include <sys/mman.h>
@@ -20,6 +20,10 @@ static bool is_finished;
 
 void end_process(int status)
 {
+    if (by_snapshots) {
+        go_back_if_any();
+        end_process_of_snapshots();
+    }
     extern void __gcov_dump(void) __attribute__((weak));
     if (__gcov_dump)
         __gcov_dump();
@@ -220,7 +224,7 @@ void run_is_finished(void) { is_finished = true; }
 void watch_for_the_end(void)
 {
     static const int numbers[] = { SIGBUS, SIGFPE, SIGILL, SIGABRT, SIGTERM };
-    struct sigaction s = { .sa_sigaction = stopped, .sa_flags = SA_SIGINFO | SA_ONSTACK };
+    struct sigaction s = { .sa_sigaction = stopped, .sa_flags = SA_SIGINFO | SA_ONSTACK | (by_snapshots ? SA_NODEFER : 0) };
     for (size_t i = 0; i < sizeof numbers / sizeof *numbers; i++)
         sigaction(numbers[i], &s, NULL);
     s.sa_sigaction = place_asked;

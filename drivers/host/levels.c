@@ -114,6 +114,7 @@ void check_call(const Call *c)
     const Level *l = c->at.file ? level_of(c->name) : NULL;
     if (l && l->flags != WAITS)
         check_level(l);
+    check_pageable_call(c);
 }
 
 /* A wait that may take time, or another call that is nothing but checked. Takes G and gives it back. */
@@ -167,6 +168,7 @@ void enter_level(Frame *f)
         self.irql = f->irql;
     f->irql = self.irql;
     close_paged();
+    check_pageable_routine(f);
 }
 
 /* It returns: with the level at which it began, and without locks that it took. */

@@ -1,5 +1,5 @@
 /*
- * low_memory.c: allocations of drivers that fail. WDM_REFUSE=N refuses the N-th of a run; N+ that one and all behind
+ * low_memory.c: allocations and mappings of drivers that fail. WDM_REFUSE=N refuses the N-th of a run; N+ that one and all behind
  * it; sS one in sixteen, by the seed S. The summary says how many allocations a run made.
  */
 #include "host.h"
@@ -37,7 +37,8 @@ bool memory_is_refused(const char *what, WDM_SITE at)
     const bool may_be_a_test = !self.frames && !self.is_driver && self.driver == NOBODY && has_test(at.file);
     if (is_hosts_file(at.file) || (may_be_a_test && !strncmp(what, "IoAllocate", 10)))
         return false;
-    if (!is_chosen(++n_allocations))
+    remember_allocation(++n_allocations, what, at);
+    if (!is_chosen(n_allocations))
         return false;
     if (!n_refused++) {
         first_refused = at;

@@ -23,6 +23,53 @@ static WDM_SITE lock_of(PMDL mdl)
     return (WDM_SITE){ 0 };
 }
 
+static void lock_pages(PMDL mdl, bool for_writing, WDM_SITE at)
+{
+    lock_block(MmGetMdlVirtualAddress(mdl), 1);
+    mdl->MdlFlags |= MDL_PAGES_LOCKED | (for_writing ? MDL_WRITE_OPERATION : 0);
+    forget_lock(mdl);
+    if (n_locked < MAX_LOCKED) {
+        locked[n_locked].mdl = mdl;
+        locked[n_locked++].at = at;
+    }
+}
+
+static void unlock_pages(PMDL mdl)
+{
+    lock_block(MmGetMdlVirtualAddress(mdl), -1);
+    mdl->MdlFlags &= (CSHORT)~(MDL_PAGES_LOCKED | MDL_MAPPED_TO_SYSTEM_VA | MDL_WRITE_OPERATION);
+    mdl->MappedSystemVa = NULL;
+    forget_lock(mdl);
+}
+
+/* An asynchronous packet's MDL describes its builder's own buffer, and its system buffer is pool: whoever had it built
+   unlocks and frees them before the packet. */
+void lend_buffers(Packet *p, PVOID buffer, ULONG length, bool is_read)
+{
+    p->lends = true;
+    if (p->irp->MdlAddress && buffer && (p->lent = host_memory(MmSizeOfMdl(buffer, length)))) {
+        MmInitializeMdl(p->lent, buffer, length);
+        lock_pages(p->lent, is_read, self.calls->at);
+        p->irp->MdlAddress = p->lent;
+        p->writes_back = false;
+    } else if (p->irp->AssociatedIrp.SystemBuffer && p->bytes) {
+        p->bytes->is_buffer = false;
+        p->bytes->lent_by = p;
+        p->irp->Flags |= IRP_BUFFERED_IO | IRP_DEALLOCATE_BUFFER | (is_read ? IRP_INPUT_OPERATION : 0);
+    }
+}
+
+/* Nobody kept the packet: the I/O manager unlocks and frees its MDL. */
+void end_lent_mdl(Packet *p)
+{
+    if (p->lent && p->irp->MdlAddress == p->lent && p->lent->MdlFlags & MDL_PAGES_LOCKED) {
+        unlock_pages(p->lent);
+        free_host_memory(p->lent);
+        p->irp->MdlAddress = NULL;
+    }
+    p->lent = NULL;
+}
+
 PMDL WdmIoAllocateMdl(PVOID Address, ULONG Length, BOOLEAN Secondary, PIRP Irp, WDM_SITE at)
 {
     Call c;
@@ -41,16 +88,32 @@ PMDL WdmIoAllocateMdl(PVOID Address, ULONG Length, BOOLEAN Secondary, PIRP Irp, 
     return mdl;
 }
 
+/* The packet that was built with this MDL, and frees it: the I/O manager locked its pages. */
+static Packet *built_with(PMDL mdl)
+{
+    for (int i = 0; i < n_packets; i++)
+        if (packets[i]->buffer && (mdl == packets[i]->buffer || mdl == packets[i]->direct))
+            return packets[i];
+    return NULL;
+}
+
+static void tell_freed_locked(PMDL mdl)
+{
+    const WDM_SITE at = lock_of(mdl);
+    if (mdl->MdlFlags & MDL_PAGES_LOCKED)
+        fault("MdlLocked", NULL, "an MDL is freed whose pages are locked%s%s: call MmUnlockPages before",
+              at.file ? " since " : "", at.file ? place(at) : "");
+}
+
 VOID WdmIoFreeMdl(PMDL Mdl, WDM_SITE at)
 {
     Call c;
     enter_host(&c, "IoFreeMdl", at);
     touch_memory(Mdl, sizeof *Mdl, WRITES);
-    if (Mdl->MdlFlags & MDL_PAGES_LOCKED)
-        fault("MdlLocked", NULL, "an MDL is freed whose pages are locked since %s: call MmUnlockPages before",
-              place(lock_of(Mdl)));
+    tell_freed_locked(Mdl);
     forget_lock(Mdl);
-    free_host_memory(Mdl);
+    if (!built_with(Mdl))
+        free_host_memory(Mdl);
     leave_host();
 }
 
@@ -75,13 +138,7 @@ VOID WdmMmProbeAndLockPages(PMDL Mdl, LOCK_OPERATION Operation, WDM_SITE at)
     if (Mdl->MdlFlags & (MDL_PAGES_LOCKED | MDL_SOURCE_IS_NONPAGED_POOL | MDL_PARTIAL))
         fault("MdlLocked", NULL, "the pages of an MDL are locked that was %s",
               Mdl->MdlFlags & MDL_PAGES_LOCKED ? "locked before" : "built for memory that needs no lock");
-    lock_block(MmGetMdlVirtualAddress(Mdl), 1);
-    Mdl->MdlFlags |= MDL_PAGES_LOCKED | (Operation == IoReadAccess ? 0 : MDL_WRITE_OPERATION);
-    forget_lock(Mdl);
-    if (n_locked < MAX_LOCKED) {
-        locked[n_locked].mdl = Mdl;
-        locked[n_locked++].at = at;
-    }
+    lock_pages(Mdl, Operation != IoReadAccess, at);
     leave_host();
 }
 
@@ -93,24 +150,26 @@ VOID WdmMmUnlockPages(PMDL Mdl, WDM_SITE at)
     if (!(Mdl->MdlFlags & MDL_PAGES_LOCKED))
         fault("MdlNotLocked", NULL, "the pages of an MDL are unlocked that aren't locked");
     else
-        lock_block(MmGetMdlVirtualAddress(Mdl), -1);
-    Mdl->MdlFlags &= (CSHORT)~(MDL_PAGES_LOCKED | MDL_MAPPED_TO_SYSTEM_VA | MDL_WRITE_OPERATION);
-    Mdl->MappedSystemVa = NULL;
-    forget_lock(Mdl);
+        unlock_pages(Mdl);
     leave_host();
 }
 
-PVOID WdmMmMapMdl(PMDL Mdl, WDM_SITE at)
+/* One that isn't mapped yet takes system addresses, of which there may be none left. */
+PVOID WdmMmMapMdl(PMDL Mdl, BOOLEAN MayFail, WDM_SITE at)
 {
     Call c;
     enter_host(&c, "MmGetSystemAddressForMdlSafe", at);
     touch_memory(Mdl, sizeof *Mdl, WRITES);
     if (!(Mdl->MdlFlags & (MDL_PAGES_LOCKED | MDL_SOURCE_IS_NONPAGED_POOL | MDL_PARTIAL)))
         fault("MdlNotLocked", NULL, "an MDL is mapped that was neither locked nor built");
-    Mdl->MdlFlags |= MDL_MAPPED_TO_SYSTEM_VA;
-    Mdl->MappedSystemVa = MmGetMdlVirtualAddress(Mdl);
+    const bool is_mapped = Mdl->MdlFlags & (MDL_MAPPED_TO_SYSTEM_VA | MDL_SOURCE_IS_NONPAGED_POOL);
+    const bool fails = MayFail && !is_mapped && memory_is_refused(c.name, at);
+    if (!fails) {
+        Mdl->MdlFlags |= MDL_MAPPED_TO_SYSTEM_VA;
+        Mdl->MappedSystemVa = MmGetMdlVirtualAddress(Mdl);
+    }
     leave_host();
-    return Mdl->MappedSystemVa;
+    return fails ? NULL : Mdl->MappedSystemVa;
 }
 
 VOID WdmMmUnmapLockedPages(PVOID Base, PMDL Mdl, WDM_SITE at)
@@ -144,6 +203,22 @@ VOID WdmIoBuildPartialMdl(PMDL Source, PMDL Target, PVOID Address, ULONG Length,
     leave_host();
 }
 
+/* A program's memory is pageable, and nobody has probed it. Where it can't be had the buffer stays as it was built. */
+static void give_programs_memory(Packet *p, PIO_STACK_LOCATION next)
+{
+    Block *old = p->bytes, *b = new_block(old->size, 0, WDM_POOL_ZERO | WDM_POOL_PAGED, p->sites.allocated);
+    if (!b)
+        return;
+    b->is_buffer = true;
+    memcpy(b->bytes, old->bytes, old->size);
+    if (p->irp->UserBuffer == old->bytes)
+        p->irp->UserBuffer = b->bytes;
+    if (next->Parameters.DeviceIoControl.Type3InputBuffer == old->bytes)
+        next->Parameters.DeviceIoControl.Type3InputBuffer = b->bytes;
+    p->bytes = b;
+    free_block(old, self.calls->at);
+}
+
 /* A control of METHOD_IN_DIRECT or METHOD_OUT_DIRECT that is built has an MDL of its output buffer, and one of
    METHOD_NEITHER no system buffer: given at its first send, when its code is known. Under G. */
 void give_mdl(Packet *p)
@@ -154,12 +229,18 @@ void give_mdl(Packet *p)
     const ULONG method = METHOD_FROM_CTL_CODE(next->Parameters.DeviceIoControl.IoControlCode);
     const bool is_control =
         next->MajorFunction == IRP_MJ_DEVICE_CONTROL || next->MajorFunction == IRP_MJ_INTERNAL_DEVICE_CONTROL;
-    if (next->MajorFunction == IRP_MJ_DEVICE_CONTROL && method == METHOD_NEITHER && p->bytes) {
+    if (next->MajorFunction == IRP_MJ_DEVICE_CONTROL && method == METHOD_NEITHER && p->bytes &&
+        p->irp->AssociatedIrp.SystemBuffer) {
         if (!next->Parameters.DeviceIoControl.Type3InputBuffer)
             next->Parameters.DeviceIoControl.Type3InputBuffer = p->bytes->bytes;
         p->irp->AssociatedIrp.SystemBuffer = NULL;
-        close_until_probed(p->bytes);
+        p->irp->Flags &= ~(ULONG)(IRP_BUFFERED_IO | IRP_DEALLOCATE_BUFFER);
+        if (p->irp->RequestorMode == UserMode)
+            give_programs_memory(p, next);
+        close_until_probed(p->bytes, p->irp->RequestorMode == UserMode);
     }
+    if (next->MajorFunction == IRP_MJ_DEVICE_CONTROL && method == METHOD_BUFFERED && p->irp->RequestorMode == UserMode)
+        fill_behind_input(p, next->Parameters.DeviceIoControl.InputBufferLength);
     if (!is_control || (method != METHOD_IN_DIRECT && method != METHOD_OUT_DIRECT))
         return;
     const ULONG length = next->Parameters.DeviceIoControl.OutputBufferLength;
@@ -170,8 +251,7 @@ void give_mdl(Packet *p)
         return;
     lock_block(out, 1); /* for as long as it lives */
     MmInitializeMdl(p->direct, out, length);
-    p->direct->MdlFlags |= MDL_SOURCE_IS_NONPAGED_POOL | MDL_MAPPED_TO_SYSTEM_VA;
-    p->direct->MappedSystemVa = out;
+    p->direct->MdlFlags |= MDL_PAGES_LOCKED;
     p->irp->MdlAddress = p->direct;
     p->writes_back = false; /* what is written there is in the caller's buffer already */
 }

@@ -139,11 +139,14 @@ NTSTATUS WdmZwClose(HANDLE Handle, WDM_SITE at)
     touch(&handles, SYNCS);
     const ULONG_PTR i = (ULONG_PTR)Handle / 4 - 1;
     const bool is_open = i < MAX_HANDLES && handles[i].object;
+    PVOID file = is_open && handles[i].type == files ? handles[i].object : NULL;
     if (is_open)
         handles[i].object = NULL;
     else
         fault("NotOpen", NULL, "a handle is closed that isn't open");
     leave_host();
+    if (file)
+        WdmClose(file, at);
     return is_open ? STATUS_SUCCESS : STATUS_INVALID_HANDLE;
 }
 

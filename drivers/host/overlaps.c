@@ -2,13 +2,18 @@
  * overlaps.c: the test that `run --every-order` takes where none is given: small pieces in which a driver's routines meet.
  *
  * WDM_SCENARIO names the piece. Each puts the drivers, in their order, on a bottom device that completes reads and writes
- * later, and starts them. A driver that creates a device in DriverEntry gets the requests there, and only the first two.
+ * later, and starts them. A driver that creates a device in DriverEntry gets the requests there, where these need no stack.
+ *
+ * Besides those that have a name, a piece is `A`, or `A+B`: A is read, write or the code of a control, which a thread sends;
+ * B is one of these too, or what happens to the device or the file meanwhile: cancel, cleanup, power, stop or surprise.
  *
  * The I/O manager frees the requests at their end, as nearly all on Windows, so that a dispatch that touches its packet after
  * another thread could end it is told. Only that of a driver elsewhere is freed by its sender.
  */
+#include "situations.h"
 #include "wdm_test.h"
 #include <pthread.h>
+#include <stdio.h>
 
 extern const struct { const char *name; PDRIVER_INITIALIZE entry; } wdm_drivers[];
 extern const int wdm_n_drivers;
@@ -17,6 +22,7 @@ typedef struct { PIRP irp; KEVENT done; IO_STATUS_BLOCK result; BOOLEAN is_kept;
 static PDEVICE_OBJECT top;
 VOID WdmTellKept(PIRP Irp); /* of the host */
 static Request pended;
+static BOOLEAN has_context; /* drivers keep one in each file (FsContext): they needn't expect a request without a file */
 
 static NTSTATUS keep(PDEVICE_OBJECT device, PIRP irp, PVOID context)
 {
@@ -40,13 +46,34 @@ static void start(Request *r, UCHAR major)
     IoCallDriver(top, r->irp);
 }
 
-/* A driver elsewhere sends it, without a file, and frees it. */
-static void start_without_file(Request *r, UCHAR major)
+static void take_file(Request *r)
+{
+    IoGetNextIrpStackLocation(r->irp)->FileObject = r->irp->Tail.Overlay.OriginalFileObject = NULL;
+}
+
+static PFILE_OBJECT opened;
+
+static PFILE_OBJECT open_it(void)
+{
+    PFILE_OBJECT file = opened = WdmOpenFile(top);
+    has_context = file && (file->FsContext || file->FsContext2);
+    return file;
+}
+
+static void close_it(PFILE_OBJECT file)
+{
+    if (file)
+        WdmCloseFile(file);
+}
+
+/* A driver elsewhere sends it and frees it: without a file, unless drivers keep a context in files. */
+static void start_elsewhere(Request *r, UCHAR major)
 {
     KeInitializeEvent(&r->done, NotificationEvent, FALSE);
     r->is_kept = TRUE;
     r->irp = WdmBuildIrp(top, major, 0, 16, NULL, NULL);
-    IoGetNextIrpStackLocation(r->irp)->FileObject = r->irp->Tail.Overlay.OriginalFileObject = NULL;
+    if (!has_context)
+        take_file(r);
     IoSetCompletionRoutine(r->irp, keep, r, TRUE, TRUE, TRUE);
     IoCallDriver(top, r->irp);
 }
@@ -71,9 +98,9 @@ static void *read_once(void *context)
     return context;
 }
 
-static void *read_without_file(void *context)
+static void *read_elsewhere(void *context)
 {
-    start_without_file(context, IRP_MJ_READ);
+    start_elsewhere(context, IRP_MJ_READ);
     return context;
 }
 
@@ -141,7 +168,7 @@ static void take_by_surprise(Request *held)
 {
     pthread_t t;
     Request late;
-    pthread_create(&t, NULL, read_without_file, &late);
+    pthread_create(&t, NULL, read_elsewhere, &late);
     pnp(IRP_MN_SURPRISE_REMOVAL);
     pthread_join(t, NULL);
     WdmTellKept(held->irp);
@@ -150,25 +177,154 @@ static void take_by_surprise(Request *held)
 }
 
 /* The device goes while two reads are held in it: one that its sender cancels at some time, and one that the removal ends.
-   A driver that looks at files may want one: then the second isn't there, as on Windows, where who has a file closes it
-   before. */
-static void remove_with_reads(UCHAR before)
+   Where drivers keep a context in files both have a file, and who has that closes it before the removal. So only a surprise
+   removal meets them there. */
+static void remove_with_reads(UCHAR before, PFILE_OBJECT file)
 {
     pthread_t t;
     Request held;
-    const BOOLEAN holds = !getenv("WDM_FILES");
-    start(&pended, IRP_MJ_READ);
+    const BOOLEAN surprises = before == IRP_MN_SURPRISE_REMOVAL, holds = surprises || !has_context;
+    if (!has_context)
+        close_it(file);
+    build(&pended, IRP_MJ_READ);
+    if (!has_context)
+        take_file(&pended);
+    IoCallDriver(top, pended.irp);
     if (holds)
-        start_without_file(&held, IRP_MJ_READ);
+        start_elsewhere(&held, IRP_MJ_READ);
     pthread_create(&t, NULL, finish_pended, NULL);
-    if (holds && before == IRP_MN_SURPRISE_REMOVAL)
+    if (surprises)
         take_by_surprise(&held);
     else
         pnp(before);
+    if (has_context) {
+        pthread_join(t, NULL);
+        if (holds)
+            finish(&held);
+        close_it(file);
+    }
     pnp(IRP_MN_REMOVE_DEVICE);
-    pthread_join(t, NULL);
-    if (holds)
+    if (!has_context) {
+        pthread_join(t, NULL);
         finish(&held);
+    }
+}
+
+/* What a thread of a pair sends, and on which file: NULL for the one that was opened last. */
+typedef struct { const char *what; PFILE_OBJECT file; } Act;
+
+static void build_act(Request *r, const Act *a)
+{
+    const BOOLEAN is_read = !strcmp(a->what, "read"), is_write = !strcmp(a->what, "write");
+    WdmUseFile(a->file);
+    build(r, is_read ? IRP_MJ_READ : is_write ? IRP_MJ_WRITE : IRP_MJ_DEVICE_CONTROL);
+    if (!is_read && !is_write)
+        IoGetNextIrpStackLocation(r->irp)->Parameters.DeviceIoControl.IoControlCode = (ULONG)strtoul(a->what, NULL, 0);
+    WdmUseFile(NULL);
+}
+
+/* Whether a driver takes it, where it is a control. */
+static void tell_taken(const Act *a, NTSTATUS status)
+{
+    const ULONG code = (ULONG)strtoul(a->what, NULL, 0);
+    if (code)
+        control_sent(code, status != STATUS_INVALID_DEVICE_REQUEST && status != STATUS_NOT_SUPPORTED);
+}
+
+static void *act(void *context)
+{
+    Request r;
+    build_act(&r, context);
+    IoCallDriver(top, r.irp);
+    finish(&r);
+    tell_taken(context, r.result.Status);
+    return NULL;
+}
+
+static void stop_and_go(void)
+{
+    if (!NT_SUCCESS(WdmSend(top, IRP_MJ_PNP, IRP_MN_QUERY_STOP_DEVICE, 0))) {
+        pnp(IRP_MN_CANCEL_STOP_DEVICE);
+        return;
+    }
+    pnp(IRP_MN_STOP_DEVICE);
+    pnp(IRP_MN_START_DEVICE);
+}
+
+static void clean_up(PFILE_OBJECT file)
+{
+    WdmUseFile(file);
+    WdmSend(top, IRP_MJ_CLEANUP, 0, 0);
+    WdmUseFile(NULL);
+}
+
+/* What happens while another thread sends. */
+static void meanwhile(const char *what, PFILE_OBJECT second)
+{
+    Act own = { what, NULL };
+    if (!strcmp(what, "cleanup"))
+        clean_up(second);
+    else if (!strcmp(what, "stop"))
+        stop_and_go();
+    else if (!strcmp(what, "power")) {
+        set_power(PowerDeviceD3);
+        set_power(PowerDeviceD0);
+    } else if (!strcmp(what, "surprise"))
+        pnp(IRP_MN_SURPRISE_REMOVAL);
+    else
+        act(&own);
+}
+
+/* The request is cancelled by another thread while it is sent, held or completed. */
+static void act_and_cancel(const Act *a)
+{
+    pthread_t t;
+    build_act(&pended, a);
+    pthread_create(&t, NULL, cancel_pended, NULL);
+    IoCallDriver(top, pended.irp);
+    pthread_join(t, NULL);
+    finish(&pended);
+}
+
+/* Another program, which has opened the device first, reads too. */
+static void read_beside(Request *r)
+{
+    const Act a = { "read", opened };
+    build_act(r, &a);
+    IoCallDriver(top, r->irp);
+}
+
+static void play_pair(const char *scenario)
+{
+    static char text[80];
+    static Act first;
+    pthread_t t;
+    Request other;
+    snprintf(text, sizeof text, "%s", scenario);
+    char *second = strchr(text, '+');
+    if (second)
+        *second++ = 0;
+    const BOOLEAN cleans = second && !strcmp(second, "cleanup");
+    PFILE_OBJECT file = cleans ? WdmOpenFile(top) : NULL;
+    first = (Act){ text, file };
+    if (cleans && !file) {
+        piece_not_there("the second IRP_MJ_CREATE fails");
+        return;
+    }
+    if (second && !strcmp(second, "cancel")) {
+        act_and_cancel(&first);
+        return;
+    }
+    if (cleans)
+        read_beside(&other);
+    pthread_create(&t, NULL, act, &first);
+    if (second)
+        meanwhile(second, file);
+    pthread_join(t, NULL);
+    if (cleans) {
+        finish(&other);
+        WdmCloseFile(file);
+    }
 }
 
 static void play(const char *scenario)
@@ -179,6 +335,19 @@ static void play(const char *scenario)
         cancel();
     else if (!strcmp(scenario, "power"))
         power();
+    else if (strcmp(scenario, "remove") && strcmp(scenario, "surprise"))
+        play_pair(scenario);
+}
+
+/* Whether it needs a stack: to remove, to stop, to take power from. */
+static BOOLEAN needs_stack(const char *scenario)
+{
+    static const char *const needing[] = { "remove", "surprise", "power", "stop" };
+    const char *plus = strchr(scenario, '+'), *what = plus ? plus + 1 : scenario;
+    for (size_t i = 0; i < ARRAYSIZE(needing); i++)
+        if (!strcmp(what, needing[i]))
+            return TRUE;
+    return FALSE;
 }
 
 static void play_on_stack(PDRIVER_OBJECT *loaded, const char *scenario)
@@ -188,15 +357,20 @@ static void play_on_stack(PDRIVER_OBJECT *loaded, const char *scenario)
         if (loaded[i] && loaded[i]->DriverExtension->AddDevice)
             WdmAddDevice(loaded[i], bottom);
     top = IoGetAttachedDevice(bottom);
+    if (top == bottom && needs_stack(scenario))
+        piece_not_there("no driver has AddDevice");
     if (top != bottom) {
         pnp(IRP_MN_START_DEVICE);
+        PFILE_OBJECT file = open_it();
         play(scenario);
         if (!strcmp(scenario, "remove"))
-            remove_with_reads(IRP_MN_QUERY_REMOVE_DEVICE);
+            remove_with_reads(IRP_MN_QUERY_REMOVE_DEVICE, file);
         else if (!strcmp(scenario, "surprise"))
-            remove_with_reads(IRP_MN_SURPRISE_REMOVAL);
-        else
+            remove_with_reads(IRP_MN_SURPRISE_REMOVAL, file);
+        else {
+            close_it(file);
             pnp(IRP_MN_REMOVE_DEVICE);
+        }
     }
     IoDeleteDevice(bottom);
 }
@@ -209,9 +383,11 @@ int main(void)
         loaded[i] = WdmLoadDriver(wdm_drivers[i].name, wdm_drivers[i].entry);
     play_on_stack(loaded, scenario);
     for (int i = 0; i < wdm_n_drivers && i < 64; i++)
-        if (loaded[i] && loaded[i]->DeviceObject && !loaded[i]->DriverExtension->AddDevice) {
+        if (loaded[i] && loaded[i]->DeviceObject && !loaded[i]->DriverExtension->AddDevice && !needs_stack(scenario)) {
             top = loaded[i]->DeviceObject;
+            PFILE_OBJECT file = open_it();
             play(scenario);
+            close_it(file);
         }
     if (!strcmp(scenario, "overlap"))
         WdmExpectEntries(6); /* no driver got a request where there are fewer */

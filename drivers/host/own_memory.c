@@ -71,7 +71,7 @@ static void check_words(Packet *p, int here)
         irp->StackCount = p->stack_count;
         overwritten(p, "Irp->StackCount was %d, and %d was written", p->stack_count, was);
     }
-    if (!is_skipped_by_hand(p) &&
+    if (!is_skipped_by_hand(p) && !is_moved_by_hand(p) &&
         (irp->CurrentLocation != here || irp->Tail.Overlay.CurrentStackLocation != raw_at(p, here))) {
         const int was = irp->CurrentLocation;
         irp->CurrentLocation = (CHAR)here;
@@ -85,6 +85,7 @@ void check_packet(Packet *p)
 {
     if (!lives(p) || p->trapped)
         return;
+    take_own_location(p);
     const bool one_up = (p->asking && p->asking->kind == ROUTINE) || (p->asking && p->skipped);
     const int here = p->current + one_up;
     check_words(p, here);

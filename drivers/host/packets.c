@@ -129,6 +129,7 @@ void begin_use(Packet *p, NTSTATUS status)
     p->irp->Size = IoSizeOfIrp(p->size);
     p->irp->StackCount = p->stack_count = (CHAR)p->size;
     p->left = 0;
+    InitializeListHead(&p->irp->ThreadListEntry);
     p->irp->IoStatus.Status = status;
     p->current = p->size + 1;
     put_back(p);
@@ -137,10 +138,11 @@ void begin_use(Packet *p, NTSTATUS status)
     p->status = (ULONG)status;
     p->information = 0;
     packets_lost -= p->lost;
-    p->cancel = p->returned = p->lost = p->writes_back = p->status_is_gone = p->event_is_gone = false;
+    p->cancel = p->returned = p->lost = p->writes_back = p->status_is_gone = p->event_is_gone = p->failed_at_once = false;
     prepare_nothing(p);
     p->kept_by = NULL;
-    p->ran = NULL;
+    p->file = NULL;
+    p->ran = p->own_cancel = NULL;
     p->sites.sent = p->sites.completed = p->sites.cancel = p->sites.none_taken = (WDM_SITE){ 0 };
     p->use = next_use++;
 }
@@ -149,7 +151,7 @@ void begin_use(Packet *p, NTSTATUS status)
 Packet *new_packet(int size, PIRP irp)
 {
     if (n_packets == MAX_PACKETS || n_live == MAX_LIVE)
-        give_up("65,536 packets in one run, or 4,096 at once");
+        reach_limit("65,536 packets in one run, or 4,096 at once");
     Packet *p = calloc(1, sizeof *p);
     if (!p)
         give_up("out of memory");
@@ -181,6 +183,7 @@ PIRP WdmIoAllocateIrp(CCHAR Size, WDM_SITE at)
         unprotect(p);
         begin_use(p, STATUS_SUCCESS);
         p->sites.allocated = at;
+        packet_allocated(p);
         e->p = p;
         e->slot = p->slot;
         e->use = p->use;
@@ -192,6 +195,7 @@ PIRP WdmIoAllocateIrp(CCHAR Size, WDM_SITE at)
 
 void free_now(Packet *p)
 {
+    packet_freed(p);
     p->live = false;
     n_live--;
     if (p->bytes)
@@ -237,6 +241,8 @@ VOID WdmIoFreeIrp(PIRP Irp, WDM_SITE at)
             fault("NotKept", p, "is freed after it has ended at %s: no routine kept it for %s",
                   place_with_callers(p->sites.completed, &p->completers), who_of(p, ORIGINATOR));
         answered(e, DONE, 0);
+        if (p->lends)
+            p->bytes = NULL; /* as in Windows it isn't freed with the packet */
         free_now(p);
         p->sites.freed = at;
         shut(p);

@@ -102,12 +102,14 @@ void open_pages(Block *b)
     b->unprobed = false;
 }
 
-/* The buffer of a METHOD_NEITHER control, as a caller's address: nobody may touch it before it is probed. */
-void close_until_probed(Block *b)
+/* The buffer of a METHOD_NEITHER control, as a caller's address: nobody may touch it before it is probed. Where a program
+   sent the control, it is the program's. */
+void close_until_probed(Block *b, bool is_programs)
 {
     if (!b->in_pages)
         return;
     b->unprobed = true;
+    b->is_programs = is_programs;
     close_pages(b);
 }
 
@@ -185,8 +187,11 @@ void tell_block_touches(void)
         self.calls = (Call *)&here;
         self.frames = NULL;
         if (touches[n_told].is_high)
-            broken("PagedAtDispatch", NULL, "byte %ld of the %s from paged pool is touched at DISPATCH_LEVEL", offset,
-                   block_text(b));
+            broken("PagedAtDispatch", NULL, "byte %ld of the %s, %s, is touched at DISPATCH_LEVEL", offset, block_text(b),
+                   b->is_buffer ? "a program's memory" : "from paged pool");
+        else if (touches[n_told].unprobed && b->is_programs)
+            broken("Unprobed", NULL, "a program's pointer, of a METHOD_NEITHER control, is used before ProbeForRead, "
+                   "ProbeForWrite or MmProbeAndLockPages");
         else if (touches[n_told].unprobed)
             note("a METHOD_NEITHER pointer", "%s: used before ProbeForRead, ProbeForWrite or MmProbeAndLockPages", where);
         else if (b->freed && offset < (long)b->size)

@@ -21,7 +21,7 @@ static int n_placed;
 VOID WdmPutOnChildren(const char *Id, PDRIVER_OBJECT Driver)
 {
     if (n_placed == MAX_PLACED)
-        give_up("drivers for more than 16 children");
+        reach_limit("drivers for more than 16 children");
     placed[n_placed].id = Id;
     placed[n_placed++].driver = Driver;
 }
@@ -55,7 +55,7 @@ static int new_node(PDEVICE_OBJECT pdo, int bus)
 {
     const int i = node_of(NULL);
     if (i < 0)
-        give_up("more than 64 devices of Plug and Play");
+        reach_limit("more than 64 devices of Plug and Play");
     nodes[i] = (Node){ .pdo = pdo, .bus = bus, .is_reported = true };
     return i;
 }
@@ -148,6 +148,7 @@ static void remove_node(int node)
     PDEVICE_OBJECT pdo = nodes[node].pdo;
     const bool is_child = nodes[node].bus >= 0;
     with_children(node, remove_node);
+    await_closed(pdo, false);
     ask_stack(pdo, IRP_MN_REMOVE_DEVICE);
     nodes[node].pdo = NULL;
     if (is_child)

@@ -76,7 +76,7 @@ static void *manage(void *unused)
 static void put_order(What what, PDEVICE_OBJECT pdo, Outcome *outcome)
 {
     if (n_orders == MAX_ORDERS)
-        give_up("more than 256 orders for the Plug and Play manager");
+        reach_limit("more than 256 orders for the Plug and Play manager");
     orders[n_orders++] = (Order){ .what = what, .pdo = pdo, .outcome = outcome };
     touch(&n_orders, SYNCS);
     if (!runs)
@@ -104,10 +104,18 @@ static NTSTATUS have_done(const char *name, What what, PDEVICE_OBJECT pdo, WDM_S
 NTSTATUS WdmPlug(PDEVICE_OBJECT Pdo, WDM_SITE at) { return have_done("WdmPlugIn", PLUG_IN, Pdo, at); }
 VOID WdmStopStart(PDEVICE_OBJECT Pdo, WDM_SITE at) { have_done("WdmStopAndStart", STOP_AND_START, Pdo, at); }
 VOID WdmGone(PDEVICE_OBJECT Pdo, WDM_SITE at) { have_done("WdmSurprise", SURPRISE, Pdo, at); }
-VOID WdmRemoved(PDEVICE_OBJECT Pdo, WDM_SITE at) { have_done("WdmRemove", REMOVE_ALL, Pdo, at); }
+VOID WdmRemoved(PDEVICE_OBJECT Pdo, WDM_SITE at)
+{
+    await_closed(Pdo, true);
+    have_done("WdmRemove", REMOVE_ALL, Pdo, at);
+}
+
 VOID WdmTakeOut(PDEVICE_OBJECT Pdo, BOOLEAN Surprise, WDM_SITE at)
 {
+    if (!Surprise)
+        await_closed(Pdo, true); /* a program that is asked for it closes its files; else the device isn't removed */
     have_done("WdmUnplug", Surprise ? SURPRISE : UNPLUG, Pdo, at);
+    await_closed(Pdo, true);
     have_done("WdmUnplug", REMOVE_ALL, Pdo, at);
 }
 

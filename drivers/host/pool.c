@@ -15,11 +15,24 @@ enum { IS_PLAIN = 0 };
 #endif
 
 static Block *buckets[BUCKETS], *oldest, *newest; /* all blocks; freed ones that are kept */
+static uint64_t was_used[BUCKETS / 64]; /* a bit for each bucket that ever had a block */
 static size_t n_kept, kept_bytes;
 static struct { WDM_SITE at; int made, live; bool told; } places[256];
 static int n_places;
 
 static Block **bucket_of(const void *bytes) { return &buckets[((uintptr_t)bytes >> 4) % BUCKETS]; }
+
+/* Goes on to the first bucket from this one on that ever had a block, or to the end. */
+static void first_from(int *at)
+{
+    for (; *at < BUCKETS; *at = (*at | 63) + 1) {
+        const uint64_t left = was_used[*at / 64] >> *at % 64;
+        if (left) {
+            *at += __builtin_ctzll(left);
+            return;
+        }
+    }
+}
 
 static Block *find_block(const void *bytes)
 {
@@ -110,7 +123,7 @@ Block *freed_block_of(const void *address)
 /* The block that the address lies in, and that isn't freed; or NULL. */
 const Block *block_around(const void *address)
 {
-    for (int i = 0; i < BUCKETS; i++)
+    for (int i = 0; first_from(&i), i < BUCKETS; i++)
         for (const Block *b = buckets[i]; b; b = b->next)
             if (!b->freed && (const char *)address >= b->bytes && (const char *)address < b->bytes + b->size)
                 return b;
@@ -133,6 +146,8 @@ Block *new_block(size_t size, ULONG tag, ULONG kind, WDM_SITE at)
     fill_fences(b);
     b->next = *bucket_of(b->bytes);
     *bucket_of(b->bytes) = b;
+    const size_t bucket = (size_t)(bucket_of(b->bytes) - buckets);
+    was_used[bucket / 64] |= 1ull << bucket % 64;
     return b;
 }
 
@@ -167,6 +182,9 @@ static void let_oldest_go(void)
 void free_block(Block *b, WDM_SITE at)
 {
     check_fences(b);
+    if (b->lent_by)
+        b->lent_by->bytes = NULL;
+    b->lent_by = NULL;
     check_gone(b->bytes, b->size, block_text(b));
     b->freed = true;
     b->released = at;
@@ -202,7 +220,7 @@ static bool is_packet_over(const Block *b) { return b->packet && (b->packet->use
 static int count_orphans(WDM_SITE at)
 {
     int n = 0;
-    for (int i = 0; i < BUCKETS; i++)
+    for (int i = 0; first_from(&i), i < BUCKETS; i++)
         for (const Block *b = buckets[i]; b; b = b->next)
             n += !b->freed && b->allocated.file == at.file && b->allocated.line == at.line && is_packet_over(b);
     return n;
@@ -297,7 +315,7 @@ void check_pool(void)
 {
     for (Block *b = oldest; b; b = b->younger)
         check_poison(b);
-    for (int i = 0; i < BUCKETS; i++)
+    for (int i = 0; first_from(&i), i < BUCKETS; i++)
         for (Block *b = buckets[i]; b; b = b->next)
             check_fences(b);
 }
@@ -305,7 +323,7 @@ void check_pool(void)
 /* A driver is unloaded: each place with its counts. Where it isn't, and its devices are gone, they are notes. */
 void tell_pool_leaks(int driver, bool is_unloaded)
 {
-    for (int i = 0; i < BUCKETS; i++)
+    for (int i = 0; first_from(&i), i < BUCKETS; i++)
         for (Block *b = buckets[i]; b; b = b->next) {
             if (b->freed || b->is_buffer || b->driver != driver)
                 continue;

@@ -1,6 +1,20 @@
 /* power_manager.c: the thread that sends what drivers ask for by PoRequestPowerIrp at DISPATCH_LEVEL to a stack that wants
-   its power packets at PASSIVE_LEVEL. The queue is under G. */
+   its power packets at PASSIVE_LEVEL, and the states that drivers report. Both are under G. */
 #include "host.h"
+
+static POWER_STATE reported[MAX_DEVICES][2]; /* of a device: of the system, of the device; unspecified at first */
+
+/* Returns what was reported before. */
+POWER_STATE PoSetPowerState(PDEVICE_OBJECT Device, POWER_STATE_TYPE Type, POWER_STATE State)
+{
+    Call c;
+    enter_host(&c, "PoSetPowerState", (WDM_SITE){ 0 });
+    POWER_STATE *const kept = &reported[device_number(Device)][Type == DevicePowerState];
+    const POWER_STATE before = *kept;
+    *kept = State;
+    leave_host();
+    return before;
+}
 
 enum { MAX_WAITING = 64 };
 typedef struct { PDEVICE_OBJECT top; PIRP irp; WDM_SITE at; } Sending;
@@ -50,7 +64,7 @@ void send_at_passive_level(PDEVICE_OBJECT top, PIRP irp, WDM_SITE at)
     Call c;
     enter_host(&c, "PoRequestPowerIrp", at);
     if (n_waiting == MAX_WAITING)
-        give_up("more than 64 packets for the power manager");
+        reach_limit("more than 64 packets for the power manager");
     waiting[n_waiting++] = (Sending){ top, irp, at };
     touch(&n_waiting, SYNCS);
     if (!runs)

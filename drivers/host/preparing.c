@@ -180,6 +180,8 @@ VOID WdmIoSetCompletionRoutine(PIRP Irp, PIO_COMPLETION_ROUTINE Routine, PVOID C
     Call c;
     enter_host(&c, "IoSetCompletionRoutine", at);
     Packet *p = find(Irp);
+    if (!Routine && Flags)
+        broken("NullRoutine", p, "no routine is set, and is to be called: Windows jumps to 0 when the packet comes up");
     Frame *f = preparing(p);
     Entry *e = begin(SET_ROUTINE, p, party(p));
     e->set = new_setting(Routine, Context, Flags);

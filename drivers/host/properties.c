@@ -2,8 +2,8 @@
 #include "host.h"
 
 enum { MAX_NAMES = 256 };
-typedef struct { UNICODE_STRING name, target; PDEVICE_OBJECT device; const GUID *class; bool is_enabled;
-                 WDM_SITE made; int driver; } Name;
+typedef struct { UNICODE_STRING name, target; PDEVICE_OBJECT device; const GUID *class; bool is_enabled, leads_nowhere;
+                 WDM_SITE made; int driver; } Name; /* made: of an interface, where it was enabled */
 typedef struct { PDEVICE_OBJECT device; DEVPROPKEY key; DEVICE_REGISTRY_PROPERTY property; DEVPROPTYPE type; ULONG size;
                  PVOID data; bool is_keyed; } Property;
 typedef struct { IO_NOTIFICATION_EVENT_CATEGORY category; GUID class; PFILE_OBJECT file;
@@ -22,6 +22,14 @@ static int find_name(PCUNICODE_STRING name)
     return -1;
 }
 
+/* The links that lead to this name lead nowhere from now on, or lead to a device again. */
+static void mark_links(PCUNICODE_STRING name, bool lead_nowhere)
+{
+    for (int i = 0; i < n_names; i++)
+        if (names[i].name.Buffer && names[i].target.Buffer && RtlEqualUnicodeString(&names[i].target, name, TRUE))
+            names[i].leads_nowhere = lead_nowhere;
+}
+
 static NTSTATUS add_name(PCUNICODE_STRING name, PCUNICODE_STRING target, PDEVICE_OBJECT device)
 {
     NTSTATUS status = STATUS_OBJECT_NAME_COLLISION;
@@ -32,18 +40,22 @@ static NTSTATUS add_name(PCUNICODE_STRING name, PCUNICODE_STRING target, PDEVICE
         status = copy_text(&n->name, name) ? STATUS_SUCCESS : STATUS_INSUFFICIENT_RESOURCES;
         if (target)
             copy_text(&n->target, target);
+        else
+            mark_links(name, false);
     }
     pthread_mutex_unlock(&host_lock);
     return status;
 }
 
 NTSTATUS WdmIoCreateNamedDevice(PDRIVER_OBJECT Driver, ULONG Extension, PUNICODE_STRING Name, DEVICE_TYPE Type,
-                                ULONG Characteristics, PDEVICE_OBJECT *Device, WDM_SITE at)
+                                ULONG Characteristics, BOOLEAN Exclusive, PDEVICE_OBJECT *Device, WDM_SITE at)
 {
     const bool is_named = Name && Name->Length;
     if (is_named && add_name(Name, NULL, NULL) == STATUS_OBJECT_NAME_COLLISION)
         return STATUS_OBJECT_NAME_COLLISION;
     const NTSTATUS status = WdmIoCreateDevice(Driver, Extension, Type, Characteristics, Device, at);
+    if (NT_SUCCESS(status) && Exclusive)
+        (*Device)->Flags |= DO_EXCLUSIVE;
     if (!is_named)
         return status;
     hold_host("IoCreateDevice", &names, WRITES);
@@ -63,8 +75,25 @@ void forget_names(PDEVICE_OBJECT device)
 {
     touch(&names, WRITES);
     for (int i = 0; i < n_names; i++)
-        if (names[i].device == device && !names[i].class)
+        if (names[i].device == device && names[i].class)
+            names[i].leads_nowhere = true;
+        else if (names[i].device == device && names[i].name.Buffer) {
+            mark_links(&names[i].name, true);
             names[i].name.Buffer = NULL;
+        }
+}
+
+/* At the end, since a driver may end them after its device: links and interfaces of devices that are gone. Under G. */
+void tell_links_to_nothing(void)
+{
+    for (int i = 0; i < n_names; i++)
+        if (!names[i].name.Buffer || !names[i].leads_nowhere || !names[i].made.file)
+            continue;
+        else if (!names[i].class)
+            fault_at("LeftBehind", NULL, "IoCreateSymbolicLink", names[i].made, "the device that the link leads to is deleted");
+        else if (names[i].is_enabled)
+            broken_at("InterfaceEnabled", "IoSetDeviceInterfaceState", names[i].made, "the device is gone, and its interface "
+                      "is still enabled");
 }
 
 NTSTATUS WdmIoCreateSymbolicLink(PUNICODE_STRING Link, PUNICODE_STRING Device, WDM_SITE at)
@@ -85,8 +114,10 @@ NTSTATUS WdmIoCreateSymbolicLink(PUNICODE_STRING Link, PUNICODE_STRING Device, W
 void tell_links_left(int driver)
 {
     for (int i = 0; i < n_names; i++)
-        if (names[i].name.Buffer && names[i].made.file && names[i].driver == driver)
+        if (names[i].name.Buffer && names[i].made.file && !names[i].class && names[i].driver == driver) {
             left_behind("the symbolic link", "IoCreateSymbolicLink", names[i].made);
+            names[i].leads_nowhere = false;
+        }
     touch(&registrations, WRITES);
     for (int i = 0; i < 64; i++)
         if (registrations[i].routine && registrations[i].driver == driver) {
@@ -108,7 +139,7 @@ NTSTATUS IoDeleteSymbolicLink(PUNICODE_STRING Link)
 }
 
 /* The device that a name leads to, by links too. */
-static PDEVICE_OBJECT device_named(PCUNICODE_STRING name)
+PDEVICE_OBJECT device_named(PCUNICODE_STRING name)
 {
     PDEVICE_OBJECT device = NULL;
     hold_host("a name is looked up", &names, READS);
@@ -127,11 +158,12 @@ NTSTATUS WdmIoGetDeviceObjectPointer(PUNICODE_STRING Name, PFILE_OBJECT *File, P
     if (!device)
         return STATUS_OBJECT_NAME_NOT_FOUND;
     *Device = IoGetAttachedDevice(device);
-    *File = WdmOpen(*Device, at);
-    if (!*File)
-        return STATUS_INSUFFICIENT_RESOURCES;
-    (*File)->HostCloses = TRUE;
+    const NTSTATUS status = open_device(*Device, File, at);
+    if (!NT_SUCCESS(status))
+        return status;
     WdmObReferenceObject(*File, at);
+    clean_up(*File, at); /* its handle is closed, and the reference stays */
+    (*File)->HostCloses = TRUE;
     return STATUS_SUCCESS;
 }
 
@@ -185,21 +217,21 @@ static void tell_interface(const GUID *class, PUNICODE_STRING link, const GUID *
     }
 }
 
-NTSTATUS IoSetDeviceInterfaceState(PUNICODE_STRING Link, BOOLEAN Enable)
+NTSTATUS WdmIoSetInterfaceState(PUNICODE_STRING Link, BOOLEAN Enable, WDM_SITE at)
 {
     if (!Link || !Link->Buffer)
         return STATUS_INVALID_PARAMETER;
     hold_host("IoSetDeviceInterfaceState", &names, WRITES);
     const int i = find_name(Link);
     const bool changes = i >= 0 && names[i].class && names[i].is_enabled != (Enable != 0);
-    if (changes)
+    if (changes) {
         names[i].is_enabled = Enable != 0;
+        names[i].made = is_hosts_file(at.file) ? (WDM_SITE){ 0 } : at;
+    }
     pthread_mutex_unlock(&host_lock);
     if (changes)
         tell_interface(names[i].class, Link, Enable ? &GUID_DEVICE_INTERFACE_ARRIVAL : &GUID_DEVICE_INTERFACE_REMOVAL);
-    return i < 0 || !names[i].class ? STATUS_OBJECT_NAME_NOT_FOUND
-        : changes || Enable         ? STATUS_SUCCESS
-                                    : STATUS_OBJECT_NAME_NOT_FOUND;
+    return i >= 0 && names[i].class && (changes || Enable) ? STATUS_SUCCESS : STATUS_OBJECT_NAME_NOT_FOUND;
 }
 
 NTSTATUS WdmIoGetDeviceInterfaces(const GUID *Class, PDEVICE_OBJECT Device, ULONG Flags, PWSTR *Links, WDM_SITE at)

@@ -1,13 +1,12 @@
 /* queues.c: cancel-safe queues (IoCsq), over the host's own calls. The queue and its lock are the driver's. */
 #include "host.h"
 
-enum { QUEUE = 1, CONTEXT = 2 };
 static const WDM_SITE nowhere;
 
 static NTSTATUS make(PIO_CSQ q, PIO_CSQ_REMOVE_IRP remove, PIO_CSQ_PEEK_NEXT_IRP peek, PIO_CSQ_ACQUIRE_LOCK acquire,
                      PIO_CSQ_RELEASE_LOCK release, PIO_CSQ_COMPLETE_CANCELED_IRP complete)
 {
-    *q = (IO_CSQ){ .Type = QUEUE, .CsqRemoveIrp = remove, .CsqPeekNextIrp = peek, .CsqAcquireLock = acquire,
+    *q = (IO_CSQ){ .Type = IO_TYPE_CSQ, .CsqRemoveIrp = remove, .CsqPeekNextIrp = peek, .CsqAcquireLock = acquire,
                    .CsqReleaseLock = release, .CsqCompleteCanceledIrp = complete };
     return STATUS_SUCCESS;
 }
@@ -26,6 +25,7 @@ NTSTATUS IoCsqInitializeEx(PIO_CSQ Csq, PIO_CSQ_INSERT_IRP_EX Insert, PIO_CSQ_RE
                            PIO_CSQ_COMPLETE_CANCELED_IRP Complete)
 {
     make(Csq, Remove, Peek, Acquire, Release, Complete);
+    Csq->Type = IO_TYPE_CSQ_EX;
     Csq->CsqInsertIrpEx = Insert;
     return STATUS_SUCCESS;
 }
@@ -35,14 +35,14 @@ static void tie(PIO_CSQ q, PIRP irp, PIO_CSQ_IRP_CONTEXT context)
 {
     irp->Tail.Overlay.DriverContext[3] = context ? (PVOID)context : (PVOID)q;
     if (context)
-        *context = (IO_CSQ_IRP_CONTEXT){ .Type = CONTEXT, .Irp = irp, .Csq = q };
+        *context = (IO_CSQ_IRP_CONTEXT){ .Type = IO_TYPE_CSQ_IRP_CONTEXT, .Irp = irp, .Csq = q };
 }
 
 static PIO_CSQ untie(PIRP irp)
 {
     ULONG *type = irp->Tail.Overlay.DriverContext[3];
     irp->Tail.Overlay.DriverContext[3] = NULL;
-    if (!type || *type == QUEUE)
+    if (!type || *type != IO_TYPE_CSQ_IRP_CONTEXT)
         return (PIO_CSQ)type;
     PIO_CSQ_IRP_CONTEXT context = (PIO_CSQ_IRP_CONTEXT)type;
     context->Irp = NULL;
@@ -62,7 +62,7 @@ static VOID WdmCsqCancel(PDEVICE_OBJECT Device, PIRP Irp)
     (void)Device;
     WdmIoReleaseCancelSpinLock(Irp->CancelIrql, nowhere);
     ULONG *type = Irp->Tail.Overlay.DriverContext[3];
-    PIO_CSQ q = *type == QUEUE ? (PIO_CSQ)type : ((PIO_CSQ_IRP_CONTEXT)type)->Csq;
+    PIO_CSQ q = *type != IO_TYPE_CSQ_IRP_CONTEXT ? (PIO_CSQ)type : ((PIO_CSQ_IRP_CONTEXT)type)->Csq;
     q->CsqAcquireLock(q, &irql);
     take_out(q, Irp);
     q->CsqReleaseLock(q, irql);
@@ -76,7 +76,7 @@ NTSTATUS WdmIoCsqInsertIrp(PIO_CSQ Csq, PIRP Irp, PIO_CSQ_IRP_CONTEXT Context, P
     hands_over_now();
     Csq->CsqAcquireLock(Csq, &irql);
     tie(Csq, Irp, Context);
-    if (Csq->CsqInsertIrpEx)
+    if (Csq->Type == IO_TYPE_CSQ_EX)
         status = Csq->CsqInsertIrpEx(Csq, Irp, InsertContext);
     else
         Csq->CsqInsertIrp(Csq, Irp);

@@ -17,10 +17,10 @@ typedef struct {
     uint32_t read[FEW_THREADS], read_pc[FEW_THREADS];
 } Cell;
 typedef struct { uint32_t read[MAX_THREADS - FEW_THREADS], read_pc[MAX_THREADS - FEW_THREADS]; } OtherReads;
-enum { CELLS = 1 << 15, PLACES = 1 << 16, FEWEST_PLACES = 1 << 11, MOST_LET_GO = 1024 };
+enum { CELLS = 1 << 18, PLACES = 1 << 19, FEWEST_PLACES = 1 << 10, MOST_LET_GO = 1024 };
 static Cell cells[CELLS];
 static OtherReads other_reads[CELLS]; /* of threads behind the first few */
-static uint16_t place_of_cell[PLACES];
+static uint32_t place_of_cell[PLACES];
 static size_t n_places = FEWEST_PLACES; /* of those that are used, as in footprint.c */
 static int n_cells;
 static uint32_t clocks[MAX_THREADS][MAX_THREADS];
@@ -30,8 +30,9 @@ static const void *cell_at(uintptr_t address) { return (const void *)(address >>
 
 void clocks_born(int parent, int child)
 {
+    const uint32_t before = clocks[child][child]; /* of a thread that had the place */
     memcpy(clocks[child], clocks[parent], sizeof clocks[child]);
-    clocks[child][child] = 1;
+    clocks[child][child] = before + 1;
     clocks[parent][parent]++;
 }
 
@@ -57,7 +58,7 @@ void clocks_meet(uint32_t *of_few, uint32_t *of_others, Touch how)
 
 static size_t place_for(const void *key)
 {
-    size_t i = ((uintptr_t)key * 0x9E3779B97F4A7C15u) >> 48 & (n_places - 1);
+    size_t i = ((uintptr_t)key * 0x9E3779B97F4A7C15u) >> 44 & (n_places - 1);
     while (place_of_cell[i] && cells[place_of_cell[i]].key != key)
         i = (i + 1) & (n_places - 1);
     return i;
@@ -68,7 +69,7 @@ static void use_more_places(void)
     memset(place_of_cell, 0, n_places * sizeof *place_of_cell);
     n_places *= 2;
     for (int n = 1; n < n_cells; n++)
-        place_of_cell[place_for(cells[n].key)] = (uint16_t)n;
+        place_of_cell[place_for(cells[n].key)] = (uint32_t)n;
 }
 
 static Cell *cell_of(const void *key)
@@ -77,7 +78,7 @@ static Cell *cell_of(const void *key)
     if (place_of_cell[i])
         return &cells[place_of_cell[i]];
     if (n_cells + 1 == CELLS) {
-        look_no_further("a run touches more than 32,767 words of memory: make its test smaller");
+        look_no_further("a run touches more than 262,143 words of memory: make its test smaller");
         cells[0] = (Cell){ .key = key, .writer = NOBODY };
         return &cells[0];
     }
@@ -85,7 +86,7 @@ static Cell *cell_of(const void *key)
     cells[n_cells] = (Cell){ .key = key, .writer = NOBODY };
     if ((size_t)n_cells * 2 > n_places)
         use_more_places();
-    place_of_cell[place_for(key)] = (uint16_t)n_cells;
+    place_of_cell[place_for(key)] = (uint32_t)n_cells;
     return &cells[n_cells];
 }
 

@@ -37,7 +37,7 @@ Entry *begin(Op op, Packet *p, int by)
 void seal(Entry *e, bool cancel)
 {
     if (n_history == MAX_HISTORY)
-        give_up("the history has a million entries");
+        reach_limit("the history has a million entries");
     if (n_history == room) {
         room = room ? 2 * room : 1024;
         history = realloc(history, room * sizeof *history);
@@ -89,6 +89,13 @@ static bool is_second(const Entry *e)
     return e->op == COMPLETE && e->p->sites.completed.file && (e->p->owner < 0 || !e->p->live);
 }
 
+/* The host's own test sends to a device that a driver has deleted: the delete is told, not the send. */
+static bool is_sent_where_deleted(const Entry *e)
+{
+    return e->op == CALL && !strcmp(e->refused, "DeviceGone") && !devices[e->other].live && devices[e->other].deleted.file &&
+        self.calls && is_hosts_file(self.calls->at.file);
+}
+
 /* A call that the rules refuse: it is recorded so, has no effect, and is told. */
 void refuse(Entry *e, const char *name)
 {
@@ -104,6 +111,9 @@ void refuse(Entry *e, const char *name)
     else if (e->op <= REMOVE)
         fault(rule, NULL, "refused for %s%s", who(e->device),
               !strcmp(name, "NotDrained") ? held_tags(e->device) : !strcmp(name, "InFlight") ? packet_at(e->device) : "");
+    else if (is_sent_where_deleted(e))
+        fault_at(rule, e->p, "IoDeleteDevice", devices[e->other].deleted, "%s is deleted here, and a request is sent to it "
+                 "afterwards; refused: %s", who(e->other), name);
     else if (e->op >= SET_NEXT && e->op <= SET_CANCEL)
         fault(rule, e->p, "by %s%s%s%s; refused: %s", who_of(e->p, e->by), before, holder, second ? none_taken(e->p) : "",
               name);
@@ -153,7 +163,7 @@ uint64_t number_of(const void *raw)
         i = (i + 1) & (ROOM - 1);
     if (!table[i].raw) {
         if (last == ROOM / 2)
-            give_up("too many different contexts and tags");
+            reach_limit("too many different contexts and tags");
         table[i].raw = raw, table[i].number = ++last;
     }
     return table[i].number;

@@ -102,7 +102,7 @@ static int number_elsewhere(PIO_REMOVE_LOCK lock)
         if (locks[i].raw == lock)
             found = i;
     if (found < 0)
-        give_up("more than 64 remove locks that lie in no device's extension");
+        reach_limit("more than 64 remove locks that lie in no device's extension");
     locks[found].n = 0;
     locks[found].removed = false;
     return found;

@@ -1,11 +1,19 @@
 /* requests.c: one request of the host's own test, and which control codes a stack knows. */
 #include "schedule.h"
+#include "bottom_answers.h"
 #include "requests.h"
 
 enum { MOST_FOR_TIMERS = 300 }; /* milliseconds */
-enum { MOST_CONTROLS = 48, NOT_KNOWN = CTL_CODE(FILE_DEVICE_UNKNOWN, 0x7ff, METHOD_BUFFERED, FILE_ANY_ACCESS) };
+enum { ANSWER_IS_LONGER = 4095 }; /* a control of this length has less input */
+enum { MOST_CONTROLS = 256, NOT_KNOWN = CTL_CODE(FILE_DEVICE_UNKNOWN, 0x7ff, METHOD_BUFFERED, FILE_ANY_ACCESS) };
 ULONG controls[MOST_CONTROLS];
 int n_controls;
+PDEVICE_OBJECT bottom;
+
+What control(int i, ULONG length) { return (What){ IRP_MJ_DEVICE_CONTROL, length, controls[i] }; }
+What transfer(UCHAR major, ULONG length) { return (What){ major, length, 0 }; }
+BOOLEAN is_held(Request *r) { return KeReadStateEvent(&r->done) == 0; }
+BOOLEAN is_held_by_driver(Request *r) { return is_held(r) && !(bottom && bottom_holds(bottom)); }
 
 static NTSTATUS keep(PDEVICE_OBJECT device, PIRP irp, PVOID context)
 {
@@ -20,6 +28,7 @@ BOOLEAN start_request(Request *r, PDEVICE_OBJECT top, What what, How how)
 {
     const BOOLEAN kept = (how & (KEPT | CANCELLED_AFTER)) != 0;
     r->how = how;
+    r->major = what.major;
     r->result = (IO_STATUS_BLOCK){ .Status = STATUS_PENDING };
     KeInitializeEvent(&r->done, NotificationEvent, FALSE);
     r->irp = WdmBuildIrp(top, what.major, 0, what.length, kept ? NULL : &r->result, kept ? NULL : &r->done);
@@ -27,12 +36,18 @@ BOOLEAN start_request(Request *r, PDEVICE_OBJECT top, What what, How how)
         return FALSE;
     if (what.major == IRP_MJ_DEVICE_CONTROL || what.major == IRP_MJ_INTERNAL_DEVICE_CONTROL)
         IoGetNextIrpStackLocation(r->irp)->Parameters.DeviceIoControl.IoControlCode = what.code;
-    if (how & WITHOUT_FILE)
+    if (what.major == IRP_MJ_DEVICE_CONTROL && what.length == ANSWER_IS_LONGER)
+        IoGetNextIrpStackLocation(r->irp)->Parameters.DeviceIoControl.InputBufferLength = 16;
+    if (how & WITHOUT_FILE) { /* another driver's */
         IoGetNextIrpStackLocation(r->irp)->FileObject = r->irp->Tail.Overlay.OriginalFileObject = NULL;
+        r->irp->RequestorMode = KernelMode;
+    }
     if (kept)
         IoSetCompletionRoutine(r->irp, keep, r, TRUE, TRUE, TRUE);
-    if (how & CANCELLED_BEFORE)
+    if (how & CANCELLED_BEFORE) {
         IoCancelIrp(r->irp);
+        made(SITUATION_CANCELLED_EARLY);
+    }
     IoCallDriver(top, r->irp);
     return TRUE;
 }
@@ -50,15 +65,29 @@ static BOOLEAN is_done_by_timer(Request *r)
     return left && is_done_within(r, left + MOST_FOR_TIMERS);
 }
 
+/* The request is on its way, and is cancelled. */
+static void tell_cancel(Request *r)
+{
+    if (r->major == IRP_MJ_READ || r->major == IRP_MJ_WRITE)
+        made(r->major == IRP_MJ_READ ? SITUATION_READ_CANCELLED : SITUATION_WRITE_CANCELLED);
+    else if (r->major == IRP_MJ_DEVICE_CONTROL)
+        made(SITUATION_CONTROL_CANCELLED);
+    if (is_held_by_driver(r))
+        made(SITUATION_HELD_CANCELLED);
+}
+
 NTSTATUS end_request(Request *r, int milliseconds)
 {
     const BOOLEAN kept = (r->how & (KEPT | CANCELLED_AFTER)) != 0;
     if (!is_done_within(r, r->how & CANCELLED_AT_ONCE ? 0 : milliseconds) && !is_done_by_timer(r)) {
+        tell_cancel(r);
         WdmCancelRequest(r->irp);
         KeWaitForSingleObject(&r->done, Executive, KernelMode, FALSE, NULL);
     }
-    if (r->how & CANCELLED_AFTER)
+    if (r->how & CANCELLED_AFTER) {
         IoCancelIrp(r->irp);
+        made(SITUATION_CANCELLED_LATE);
+    }
     if (kept)
         IoFreeIrp(r->irp);
     return r->result.Status;
@@ -131,13 +160,30 @@ static BOOLEAN is_refused(NTSTATUS status)
     return status == STATUS_INVALID_DEVICE_REQUEST || status == STATUS_NOT_SUPPORTED;
 }
 
+/* Whether the drivers have any control to send. */
+static void tell_controls(PDEVICE_OBJECT top)
+{
+    static const Situation needing[] = { SITUATION_CONTROLS, SITUATION_CONTROL_MEETS, SITUATION_CONTROL_ITSELF,
+                                         SITUATION_CONTROL_CANCELLED };
+    const BOOLEAN knows = top->DriverObject->MajorFunction[IRP_MJ_DEVICE_CONTROL] != NULL;
+    for (size_t i = 0; i < ARRAYSIZE(needing); i++)
+        if (!knows || (!n_controls && !getenv("WDM_CANDIDATES")))
+            not_there(needing[i], knows ? "the source names no control code" : "no driver takes IRP_MJ_DEVICE_CONTROL");
+        else
+            not_made(needing[i], n_controls ? "each control was completed at once" : "no driver took a control code");
+    if (n_controls)
+        made(SITUATION_CONTROLS);
+}
+
 void find_controls(PDEVICE_OBJECT top)
 {
     const NTSTATUS usual = answer_to(top, NOT_KNOWN);
     ULONG code;
     for (const char *at = getenv("WDM_CANDIDATES"); at && *at;) {
         at = next_code(at, &code);
-        if (!is_refused(answer_to(top, code)))
+        const BOOLEAN is_taken = !is_refused(answer_to(top, code));
+        control_sent(code, is_taken);
+        if (is_taken)
             add_control(code);
     }
     for (ULONG i = 0; i < 16; i++) {
@@ -146,4 +192,5 @@ void find_controls(PDEVICE_OBJECT top)
         if (!is_refused(status) && status != usual)
             add_control(code);
     }
+    tell_controls(top);
 }

@@ -3,6 +3,7 @@
 #define DRIVERS_REQUESTS_H
 
 #include "wdm_test.h"
+#include "situations.h"
 
 /* What is asked of a stack: a major function, a buffer's length, and the code of a control. */
 typedef struct { UCHAR major; ULONG length, code; } What;
@@ -11,7 +12,16 @@ typedef struct { UCHAR major; ULONG length, code; } What;
    elsewhere sends one without a file. */
 typedef enum { PLAIN = 0, KEPT = 1, CANCELLED_BEFORE = 2, CANCELLED_AT_ONCE = 4, CANCELLED_AFTER = 8, WITHOUT_FILE = 16 } How;
 
-typedef struct { PIRP irp; KEVENT done; IO_STATUS_BLOCK result; How how; } Request;
+typedef struct { PIRP irp; KEVENT done; IO_STATUS_BLOCK result; How how; UCHAR major; } Request;
+
+enum { PATIENT = 50, SHORTLY = 10 }; /* milliseconds before a request is cancelled */
+enum { MOST_READS = 8 }; /* until one waits for what isn't there */
+
+/* The device of the host's below the stack that is tested, or NULL. */
+extern PDEVICE_OBJECT bottom;
+/* Whether it is on its way; whether a driver of the stack has it then. */
+BOOLEAN is_held(Request *r);
+BOOLEAN is_held_by_driver(Request *r);
 
 /* Sends a request. Returns FALSE where there is no memory for it. */
 BOOLEAN start_request(Request *r, PDEVICE_OBJECT top, What what, How how);
@@ -29,6 +39,26 @@ BOOLEAN WdmHaveRemoveLocks(PDEVICE_OBJECT Top, PDEVICE_OBJECT Bottom);
 
 /* Tells a driver that still holds it, where IRP_MN_SURPRISE_REMOVAL is over. */
 VOID WdmTellKept(PIRP Irp);
+
+/* What is asked for, and what a control of the i-th code asks for. */
+What transfer(UCHAR major, ULONG length);
+What control(int i, ULONG length);
+
+/* holding.c: requests that are on their way, or held, while something happens to their device. */
+typedef struct { PDEVICE_OBJECT top; PFILE_OBJECT file; BOOLEAN has_context, is_cleaned; } Opened; /* file: NULL where none is */
+Opened open_it(PDEVICE_OBJECT top);
+void close_it(Opened o);
+void let_bottom_finish(void);
+void use_two_files(PDEVICE_OBJECT top, Opened first);
+void sleep_and_wake(PDEVICE_OBJECT top);
+void use_in_d3(PDEVICE_OBJECT top);
+void stop_in_use(PDEVICE_OBJECT top);
+void remove_by_surprise(PDEVICE_OBJECT top, Opened o);
+void remove_in_order(PDEVICE_OBJECT top, Opened o, BOOLEAN is_read);
+
+/* restored.c: before a device is asked to stop or to go, and after the IRP_MN_CANCEL_ minor that lets it stay. */
+void keep_answers(PDEVICE_OBJECT top);
+void compare_answers(PDEVICE_OBJECT top, UCHAR minor);
 
 /* The control codes that are sent: those of WDM_CONTROLS, and from `find_controls` on those of WDM_CANDIDATES, which
    stand in the drivers' source, and usual ones: all that aren't answered as a code is that nobody knows. */

@@ -43,11 +43,14 @@ static int reader(const ERESOURCE *r, bool may_be_new)
     return may_be_new ? room : -1;
 }
 
+/* How a thread wants it. One that starves doesn't mind those that wait to have it alone. */
+typedef enum { SHARED, ALONE, STARVING } How;
+
 /* Under G: takes the resource where that is possible now. */
-static BOOLEAN try_to_take(PERESOURCE r, BOOLEAN exclusive)
+static BOOLEAN try_to_take(PERESOURCE r, How how)
 {
     touch(r, SYNCS);
-    const bool is_mine = r->Exclusive && r->Owner == me();
+    const bool is_mine = r->Exclusive && r->Owner == me(), exclusive = how == ALONE;
     const int mine = reader(r, true);
     if (is_mine) {
         r->Exclusive++;
@@ -55,7 +58,7 @@ static BOOLEAN try_to_take(PERESOURCE r, BOOLEAN exclusive)
     }
     if (exclusive ? r->Exclusive || r->Shared : r->Exclusive || mine < 0)
         return FALSE;
-    if (!exclusive && r->Shared && r->Waiting && !r->Readers[mine].Count)
+    if (how == SHARED && r->Shared && r->Waiting && !r->Readers[mine].Count)
         return FALSE; /* who waits to have it alone goes before one more reader. A free resource is never refused, so
                          whoever clears Changed is told by the next release. */
     if (exclusive) {
@@ -69,17 +72,17 @@ static BOOLEAN try_to_take(PERESOURCE r, BOOLEAN exclusive)
     return TRUE;
 }
 
-BOOLEAN WdmExAcquireResource(PERESOURCE Resource, BOOLEAN Exclusive, BOOLEAN Wait, WDM_SITE at)
+static BOOLEAN acquire(const char *name, PERESOURCE Resource, How how, BOOLEAN Wait, WDM_SITE at)
 {
     Call c;
     bool waits = false;
     for (;;) {
-        enter_host(&c, Exclusive ? "ExAcquireResourceExclusiveLite" : "ExAcquireResourceSharedLite", at);
-        if (Exclusive && Wait && reader(Resource, false) >= 0)
+        enter_host(&c, name, at);
+        if (how == ALONE && Wait && reader(Resource, false) >= 0)
             fault("Resource", NULL, "acquired to have it alone by a thread that shares it: it would wait for itself");
         Resource->Waiting -= waits;
-        const BOOLEAN taken = try_to_take(Resource, Exclusive);
-        waits = !taken && Wait && Exclusive;
+        const BOOLEAN taken = try_to_take(Resource, how);
+        waits = !taken && Wait && how == ALONE;
         Resource->Waiting += waits;
         if (!taken)
             clear_event(&Resource->Changed);
@@ -88,6 +91,17 @@ BOOLEAN WdmExAcquireResource(PERESOURCE Resource, BOOLEAN Exclusive, BOOLEAN Wai
             return taken;
         WdmKeWaitForSingleObject(&Resource->Changed, NULL, at);
     }
+}
+
+BOOLEAN WdmExAcquireResource(PERESOURCE Resource, BOOLEAN Exclusive, BOOLEAN Wait, WDM_SITE at)
+{
+    return Exclusive ? acquire("ExAcquireResourceExclusiveLite", Resource, ALONE, Wait, at)
+                     : acquire("ExAcquireResourceSharedLite", Resource, SHARED, Wait, at);
+}
+
+BOOLEAN WdmExAcquireStarving(PERESOURCE Resource, BOOLEAN Wait, WDM_SITE at)
+{
+    return acquire("ExAcquireSharedStarveExclusive", Resource, STARVING, Wait, at);
 }
 
 VOID WdmExReleaseResource(PERESOURCE Resource, WDM_SITE at)

@@ -1,28 +1,24 @@
 /* schedule.c: threads as coroutines on one thread of the system, and time that passes only where it is chosen. */
 #include "schedule.h"
-#include <sys/mman.h>
-#include <ucontext.h>
 
-enum { STACK = 256 * 1024, MOST_STUCK = 50, MOST_SPINS = 100 };
+enum { MOST_STUCK = 50, MOST_SPINS = 100 };
 enum { OVERDUE_SECONDS = 60, OVERDUE_POINTS = 20000, LOOK_EVERY = 1024 }; /* after which a wait is overdue */
-static const uintptr_t STACKS = 0x210000000000; /* the same in each run: what lies on a stack counts by its address */
 typedef struct {
-    ucontext_t context;
     Self self;
     Wait wait;
     LONGLONG since; /* when that wait began, and at which point */
     int since_point;
-    bool waits, ended;
+    bool waits, ended, is_let_go; /* is_let_go: nobody asks for its end any more */
     Woken woken;
     Place place;
     void *(*run)(void *);
     void *argument, *result;
-    char name[80];
+    const char *name;
 } Thread;
 
 bool by_schedule;
 static Thread threads[MAX_THREADS];
-static int n_threads = 1, running, n_points, n_stuck;
+static int n_threads = 1, n_born, running, n_points, n_stuck;
 static LONGLONG clock_now = 133000000000000000;
 static bool is_deciding;
 
@@ -45,6 +41,8 @@ bool has_ended(int t, void **result)
 }
 
 void after_end_of(int t) { touch(&threads[t], SYNCS); }
+
+void let_thread_go(int t) { threads[t].is_let_go = true; }
 
 /* A waiter's own question, asked in its name. */
 static bool is_over(const Thread *t)
@@ -219,7 +217,7 @@ static void go_to(int t)
     was->self = self;
     running = t;
     self = threads[t].self;
-    swapcontext(&was->context, &threads[t].context);
+    switch_coroutines((int)(was - threads), t);
 }
 
 uint64_t state_of_run(void) { return state_of(n_threads); }
@@ -249,8 +247,8 @@ static int chosen_of(const Choices *c)
 /* The one place where it is decided who goes on. */
 static void choose(Stop stop)
 {
-    if (n_points++ == MAX_POINTS)
-        give_up("the run has 300,000 scheduling points: it may never end");
+    if (n_points++ == most_points())
+        reach_limit("the run has as many scheduling points as --points says: it may never end");
     is_deciding = true;
     const Choices c = choices_at(stop);
     const int chosen = chosen_of(&c);
@@ -333,25 +331,36 @@ static void begin_thread(void)
     end_by_schedule(t->run(t->argument));
 }
 
+/* By its number among all that were ever made: its place may have been another one's. */
 static void name_thread(int n, const char *kind, void *fn)
 {
-    snprintf(threads[n].name, sizeof threads[n].name, "T%d, %s%s%s", n, kind, fn ? " " : "", fn ? function_name(fn) : "");
+    char name[80];
+    snprintf(name, sizeof name, "T%d, %s%s%s", n_born++, kind, fn ? " " : "", fn ? function_name(fn) : "");
+    threads[n].name = strdup(name);
+    if (!threads[n].name)
+        give_up("out of memory");
+}
+
+/* A place for a new thread. Where all were given it is one whose thread has ended: what that did comes before. */
+static int place_for_thread(void)
+{
+    if (n_threads < MAX_THREADS)
+        return n_threads++;
+    for (int n = 1; n < MAX_THREADS; n++) {
+        touch(&threads[n], SYNCS);
+        if (!threads[n].ended || !threads[n].is_let_go)
+            continue;
+        threads[n] = (Thread){ 0 };
+        return n;
+    }
+    reach_limit("more than 32 threads at once under a schedule: let its test begin fewer");
 }
 
 /* A thread that begins with a wait may be given it, and so be there before it has run. */
 int start_by_schedule(void *(*run)(void *), void *context, const char *kind, void *fn, const Wait *first)
 {
-    if (n_threads == MAX_THREADS)
-        give_up("more than 32 threads under a schedule");
-    const int n = n_threads++;
+    const int n = place_for_thread();
     Thread *t = &threads[n];
-    char *stack = mmap((char *)STACKS + (size_t)n * STACK, STACK, PROT_READ | PROT_WRITE,
-                       MAP_PRIVATE | MAP_ANONYMOUS | MAP_NORESERVE, -1, 0);
-    if (stack == MAP_FAILED || mprotect(stack, PAGE, PROT_NONE))
-        give_up("out of memory");
-    getcontext(&t->context);
-    t->context.uc_stack.ss_sp = stack;
-    t->context.uc_stack.ss_size = STACK;
     t->run = run;
     t->argument = context;
     t->place = (Place){ .what = "its start" };
@@ -359,7 +368,7 @@ int start_by_schedule(void *(*run)(void *), void *context, const char *kind, voi
     t->waits = first != NULL;
     if (first)
         t->wait = *first;
-    makecontext(&t->context, begin_thread, 0);
+    make_coroutine(n, begin_thread);
     name_thread(n, kind, fn);
     touch(&n_threads, SYNCS);
     thread_born(running, n);
@@ -373,6 +382,7 @@ void end_by_schedule(void *result)
     t->ended = true;
     t->place = (Place){ .what = "ends" };
     touch(t, SYNCS);
+    give_seat_back();
     choose(AT_END);
     abort();
 }

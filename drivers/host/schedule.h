@@ -10,7 +10,7 @@
 
 #include "host.h"
 
-enum { FEW_THREADS = 8, MAX_THREADS = 32, MAX_DEVIATIONS = 4096, MAX_SWITCHES = 1 << 14, MAX_POINTS = 300000 };
+enum { FEW_THREADS = 8, MAX_THREADS = 32, MAX_DEVIATIONS = 4096, MAX_SWITCHES = 1 << 14, USUAL_POINTS = 3000000 };
 typedef enum { AT_POINT, AT_YIELD, AT_WAIT, AT_END } Stop;
 
 /* schedule.c: the coroutines. */
@@ -26,10 +26,16 @@ int start_by_schedule(void *(*run)(void *), void *context, const char *kind, voi
 __attribute__((noreturn)) void end_by_schedule(void *result);
 bool has_ended(int thread, void **result);
 void after_end_of(int thread);
+void let_thread_go(int thread); /* its end isn't asked for any more: once it has ended, another one gets its place */
 const char *thread_name(int thread);
 int points_of_run(void);
 int threads_of_run(void);
 void tell_threads(void);
+
+/* coroutines.c */
+void map_stacks(void); /* of all threads that there may be */
+void make_coroutine(int thread, void (*begin)(void));
+void switch_coroutines(int from, int to);
 
 typedef struct { const char *what; WDM_SITE at; const void *pc; } Place;
 
@@ -68,11 +74,16 @@ void thread_born(int parent, int child);
 void time_passed_for(int thread, const LONGLONG *clock);
 void clock_read_by(int thread, const LONGLONG *clock);
 uint64_t next_name(void);
+void map_host_memory(void);
 
 /* racing.c: which plain accesses race, by what happened before what; and memory that was let go. */
 void clocks_born(int parent, int child);
 void clocks_meet(uint32_t *of_few, uint32_t *of_others, Touch how);
 void access_to(const void *cell, bool writes, const void *pc, bool is_plain);
+
+/* threads.c, limits.c */
+void give_seat_back(void);
+int most_points(void); /* that a run may have */
 
 /* telling.c, ending.c */
 void be_silent(void);

@@ -23,7 +23,7 @@ static PVOID make(PCWSTR path, SIZE_T size, bool is_file)
     pthread_mutex_lock(&host_lock);
     touch(&host_lock, SYNCS);
     if (n_made == 64)
-        give_up("more than 64 sections and files");
+        reach_limit("more than 64 sections and files");
     Made *m = &made[n_made++];
     *m = (Made){ .memory = host_memory(size ? size : 1), .size = size, .is_file = is_file };
     copy_text(&m->name, &name);
@@ -81,7 +81,9 @@ NTSTATUS ZwOpenFile(PHANDLE File, ACCESS_MASK Access, POBJECT_ATTRIBUTES Attribu
                     ULONG Options)
 {
     (void)Access, (void)Share, (void)Options;
-    const NTSTATUS status = open_made("ZwOpenFile", File, Attributes, true);
+    NTSTATUS status;
+    if (!open_by_name(File, Attributes, &status))
+        status = open_made("ZwOpenFile", File, Attributes, true);
     Iosb->Status = status;
     Iosb->Information = FILE_OPENED;
     return status;
@@ -99,7 +101,9 @@ NTSTATUS ZwCreateFile(PHANDLE File, ACCESS_MASK Access, POBJECT_ATTRIBUTES Attri
 NTSTATUS ZwWriteFile(HANDLE File, HANDLE Event, PIO_APC_ROUTINE Apc, PVOID Context, PIO_STATUS_BLOCK Iosb, PVOID Buffer,
                      ULONG Length, PLARGE_INTEGER Offset, PULONG Key)
 {
-    (void)Event, (void)Apc, (void)Context, (void)Buffer, (void)Offset, (void)Key;
+    (void)Event, (void)Apc, (void)Context, (void)Key;
+    if (transfer_by_handle(File, IRP_MJ_WRITE, Iosb, Buffer, Length, Offset))
+        return Iosb->Status;
     if (!handle_object(File, (POBJECT_TYPE)&written_type))
         return STATUS_INVALID_HANDLE;
     Iosb->Status = STATUS_SUCCESS;
@@ -110,8 +114,8 @@ NTSTATUS ZwWriteFile(HANDLE File, HANDLE Event, PIO_APC_ROUTINE Apc, PVOID Conte
 NTSTATUS ZwReadFile(HANDLE File, HANDLE Event, PIO_APC_ROUTINE Apc, PVOID Context, PIO_STATUS_BLOCK Iosb, PVOID Buffer,
                     ULONG Length, PLARGE_INTEGER Offset, PULONG Key)
 {
-    (void)File, (void)Event, (void)Apc, (void)Context, (void)Iosb, (void)Buffer, (void)Length, (void)Offset, (void)Key;
-    return refused("ZwReadFile");
+    (void)Event, (void)Apc, (void)Context, (void)Key;
+    return transfer_by_handle(File, IRP_MJ_READ, Iosb, Buffer, Length, Offset) ? Iosb->Status : refused("ZwReadFile");
 }
 
 NTSTATUS ZwQueryInformationFile(HANDLE File, PIO_STATUS_BLOCK Iosb, PVOID Information, ULONG Length, ULONG Class)

@@ -63,14 +63,18 @@ NTSTATUS enter_device(Packet *p, int d, Entry *e)
     leave_location(p, p->current);
     Location *l = &p->at[--p->current];
     p->sites.completed = (WDM_SITE){ 0 };
-    if (p->current == p->size)
+    if (p->current == p->size) {
         p->major = l->major;
+        p->file = raw_at(p, p->current)->FileObject;
+        p->mode = p->irp->RequestorMode;
+    }
     p->kept_by = NULL;
     put_back(p);
     l->device = d;
     l->came = (ULONG)p->irp->IoStatus.Status;
     raw_at(p, p->current)->DeviceObject = devices[d].raw;
     prepare_nothing(p);
+    request_came(devices[d].driver->HostNumber, l->major, raw_at(p, p->current)->MinorFunction);
     PDRIVER_DISPATCH fn = devices[d].raw->DriverObject->MajorFunction[l->major];
     if (!fn) {
         check_dispatch_there(p, d, l->major);
@@ -194,6 +198,7 @@ NTSTATUS WdmIoCallDriver(PDEVICE_OBJECT Target, PIRP Irp, WDM_SITE at)
     NTSTATUS answer;
     if (lives(p) && p->owner == ORIGINATOR) {
         give_mdl(p);
+        tell_own_cancel(p);
         request_sent(p);
     }
     const uint64_t use = p->use;
@@ -212,6 +217,8 @@ NTSTATUS WdmIoCallDriver(PDEVICE_OBJECT Target, PIRP Irp, WDM_SITE at)
     } else
         answer = send(p, by, d);
     watch_sent(p, by, use);
+    if (!self.frames)
+        let_closed_files_go();
     leave_host();
     return answer;
 }

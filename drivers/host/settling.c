@@ -45,7 +45,7 @@ void routine_kept(Packet *p, Frame *f)
 {
     const Location below = p->at[f->location];
     take_kept_answer(p, f);
-    if (f->marked && f->device == ORIGINATOR)
+    if (f->marked && f->device == ORIGINATOR && !p->scratch)
         fault_of("Mark", p, f, "marks a packet in which it has no location");
     if (f->location < p->size)
         pend_setter(p, f->location + 1, below, "it forwards unmarked, and its routine keeps");

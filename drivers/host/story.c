@@ -2,7 +2,7 @@
 #include "explore.h"
 
 typedef struct {
-    uint8_t from, to;
+    const char *from, *to; /* threads by their names: a place may be another one's later */
     bool preempts, early, waits, ends, is_decision;
     Place at, next;
 } Switch;
@@ -19,7 +19,7 @@ void remember_switch(const Choices *c, int to, const Place *next)
     if (chosen && first_chosen < 0)
         first_chosen = n_switches;
     switches[n_switches++] = (Switch){
-        .from = (uint8_t)c->current, .to = (uint8_t)to, .preempts = c->may_stay && to != c->current,
+        .from = thread_name(c->current), .to = thread_name(to), .preempts = c->may_stay && to != c->current,
         .early = is_early(c, to) && chosen, .waits = c->stop == AT_WAIT, .ends = c->stop == AT_END,
         .is_decision = chosen, .at = *c->place, .next = *next };
 }
@@ -38,7 +38,7 @@ static void put_place(FILE *out, const Place *p)
 
 static void put_next(FILE *out, const Switch *s, const char *then)
 {
-    fprintf(out, "schedule: %-30s goes on from ", thread_name(s->to));
+    fprintf(out, "schedule: %-30s goes on from ", s->to);
     put_place(out, &s->next);
     fprintf(out, "%s\n", then);
 }
@@ -46,7 +46,7 @@ static void put_next(FILE *out, const Switch *s, const char *then)
 static void put_switch(FILE *out, const Switch *s)
 {
     const char *how = s->preempts ? "preempted before " : s->ends ? "" : s->waits ? "waits in " : "yields in ";
-    fprintf(out, "schedule: %-30s %s", thread_name(s->from), how);
+    fprintf(out, "schedule: %-30s %s", s->from, how);
     put_place(out, &s->at);
     fprintf(out, "%s\n", s->early ? "; time passes early" : "");
 }

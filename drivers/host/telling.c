@@ -274,7 +274,7 @@ void fault_of(const char *rule, const Packet *p, const Frame *f, const char *how
 /* A fault of a call that was made before, at this place. */
 void fault_at(const char *rule, const Packet *p, const char *call, WDM_SITE at, const char *how, ...)
 {
-    char text[500];
+    char text[900];
     va_list list;
     va_start(list, how);
     vsnprintf(text, sizeof text, how, list);

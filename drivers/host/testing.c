@@ -61,7 +61,7 @@ static NTSTATUS load(const char *Name, PDRIVER_INITIALIZE Entry, PDRIVER_OBJECT 
     PDRIVER_OBJECT d = host_memory(sizeof *d);
     PDRIVER_EXTENSION extension = host_memory(sizeof *extension);
     if (!d || !extension || n_drivers == MAX_DRIVERS)
-        give_up("more than 64 drivers");
+        reach_limit("more than 64 drivers");
     extension->DriverObject = d;
     d->DriverExtension = extension;
     d->DriverInit = Entry;
@@ -72,8 +72,11 @@ static NTSTATUS load(const char *Name, PDRIVER_INITIALIZE Entry, PDRIVER_OBJECT 
     self.driver = d->HostNumber;
     leave_host();
     const NTSTATUS status = Entry(d, &path);
-    if (NT_SUCCESS(status))
+    if (NT_SUCCESS(status)) {
+        for (PDEVICE_OBJECT it = d->DeviceObject; it; it = it->NextDevice)
+            it->Flags &= ~(ULONG)DO_DEVICE_INITIALIZING; /* of what DriverEntry makes the I/O manager clears it */
         reinitialize(d);
+    }
     self.driver = before;
     if (!NT_SUCCESS(status)) {
         tell_failed("DriverEntry", d, status, at);
@@ -150,8 +153,7 @@ static void give_buffer(PIRP irp, PDEVICE_OBJECT top, UCHAR major, ULONG length,
         give_up("out of memory");
     p->bytes->is_buffer = true;
     MmInitializeMdl(mdl, p->bytes->bytes, length);
-    mdl->MdlFlags |= MDL_SOURCE_IS_NONPAGED_POOL | MDL_MAPPED_TO_SYSTEM_VA;
-    mdl->MappedSystemVa = p->bytes->bytes;
+    mdl->MdlFlags |= MDL_PAGES_LOCKED;
     irp->UserBuffer = p->bytes->bytes;
     if (!is_transfer || top->Flags & DO_BUFFERED_IO || getenv("WDM_WINE"))
         irp->AssociatedIrp.SystemBuffer = p->bytes->bytes;
@@ -159,6 +161,24 @@ static void give_buffer(PIRP irp, PDEVICE_OBJECT top, UCHAR major, ULONG length,
         irp->MdlAddress = mdl;
     p->direct = mdl + 1;
     leave_host();
+}
+
+/* What the I/O manager says of a packet. A program's request has its mode; CLEANUP, CLOSE and what no program sends have the
+   kernel's. */
+static void say_whose(PIRP irp, UCHAR major)
+{
+    static const ULONG flags[] = { [IRP_MJ_CREATE] = IRP_CREATE_OPERATION | IRP_SYNCHRONOUS_API | IRP_DEFER_IO_COMPLETION,
+                                   [IRP_MJ_CLOSE] = IRP_CLOSE_OPERATION | IRP_SYNCHRONOUS_API,
+                                   [IRP_MJ_READ] = IRP_READ_OPERATION | IRP_DEFER_IO_COMPLETION,
+                                   [IRP_MJ_WRITE] = IRP_WRITE_OPERATION | IRP_DEFER_IO_COMPLETION,
+                                   [IRP_MJ_CLEANUP] = IRP_SYNCHRONOUS_API | IRP_CLOSE_OPERATION };
+    const bool is_programs = major == IRP_MJ_CREATE || major == IRP_MJ_READ || major == IRP_MJ_WRITE ||
+        major == IRP_MJ_FLUSH_BUFFERS || major == IRP_MJ_DEVICE_CONTROL || major == IRP_MJ_QUERY_INFORMATION ||
+        major == IRP_MJ_SET_INFORMATION;
+    irp->RequestorMode = is_programs ? UserMode : KernelMode;
+    irp->Flags |= major < ARRAYSIZE(flags) ? flags[major] : 0;
+    if (irp->AssociatedIrp.SystemBuffer)
+        irp->Flags |= IRP_BUFFERED_IO | IRP_DEALLOCATE_BUFFER | (major == IRP_MJ_READ ? IRP_INPUT_OPERATION : 0);
 }
 
 /* The packet is the I/O manager's: it is freed at its end, whether or not somebody wants its status. */
@@ -192,10 +212,11 @@ PIRP WdmBuild(PDEVICE_OBJECT Top, UCHAR Major, UCHAR Minor, ULONG Length, PIO_ST
     else
         next->Parameters.Read.Length = Length;
     if (Major != IRP_MJ_PNP && Major != IRP_MJ_POWER && Major != IRP_MJ_SYSTEM_CONTROL)
-        next->FileObject = irp->Tail.Overlay.OriginalFileObject = file_for(Top, Major);
+        next->FileObject = irp->Tail.Overlay.OriginalFileObject = file_for(Top, Major, at);
     irp->Tail.Overlay.Thread = KeGetCurrentThread();
     irp->UserIosb = Iosb;
     irp->UserEvent = Event;
+    say_whose(irp, Major);
     frees_itself(irp);
     return irp;
 }
@@ -210,8 +231,17 @@ NTSTATUS WdmSendAndWait(PDEVICE_OBJECT Top, UCHAR Major, UCHAR Minor, ULONG Leng
         return STATUS_INSUFFICIENT_RESOURCES;
     if (Major == IRP_MJ_DEVICE_CONTROL)
         WdmIoGetNextIrpStackLocation(irp, at)->Parameters.DeviceIoControl.IoControlCode = Code;
+    PFILE_OBJECT file = irp->Tail.Overlay.OriginalFileObject;
+    if (Major == IRP_MJ_CLOSE && !before_close(file, at)) {
+        WdmIoFreeIrp(irp, at);
+        return STATUS_PENDING;
+    }
+    if (Major == IRP_MJ_CLEANUP)
+        before_cleanup(file);
     WdmIoCallDriver(Top, irp, at);
     WdmKeWaitForSingleObject(&ended, NULL, at);
+    if (Major == IRP_MJ_CLEANUP)
+        after_cleanup(file, at);
     return iosb.Status;
 }
 
@@ -225,17 +255,19 @@ static void write_summary(size_t entries)
     fprintf(f, "entries %zu\nwanted %zu\nfaults %d\nnotes %d\n", entries, expected_entries(), n_faults, n_notes);
     if (stopped_by)
         fprintf(f, "stopped %s\n", stopped_by);
+    if (limit_reached())
+        fprintf(f, "limit %s\n", limit_reached());
     fprintf(f, "allocations %d\nattached %d\n%s", n_allocations, count_attached(),
             memory_was_refused() || was_cancelled_there() || getenv("WDM_PEND") ? "disturbed 1\n" : "");
     write_cancel_places(f);
-    write_ran(f);
+    write_allocations(f);
     tell_expected(f);
-    tell_unreached(f);
+    write_covered(f);
     fclose(f);
 }
 
 /* The transcript goes to WDM_TRANSCRIPT, or else to standard output. Returns how many entries it has. Under G. */
-static size_t write_out(void)
+size_t write_out(void)
 {
     const char *path = getenv("WDM_TRANSCRIPT");
     char *text = NULL;
@@ -253,6 +285,7 @@ static size_t write_out(void)
     tell_refused();
     tell_cancelled_there();
     tell_repeats();
+    learn_reached();
     const size_t n = write_transcript(out);
     if (n < n_history)
         say("the transcript ends before entry %zu, a send that hasn't returned; %zu entries more aren't in it", n,
@@ -320,10 +353,11 @@ static void tell_leftovers(void)
         else if (lives(p) && p->owner >= 0)
             note("at the end", "IRP %u.%lu, sent at %s, is still held by %s", p->slot, (unsigned long)p->use,
                  place(p->sites.sent), who(p->owner));
-        else if (lives(p) && p->allocator != NOBODY && !p->asking && is_in_page(p->irp))
+        else if (lives(p) && p->allocator != NOBODY && !p->asking && is_in_page(p->irp) && !is_packet_leak(p))
             note("at the end", "IRP %u.%lu, allocated at %s, was never freed", p->slot, (unsigned long)p->use,
                  place(p->sites.allocated));
     }
+    tell_packet_leaks();
 }
 
 static bool has_no_device(int driver)
@@ -347,6 +381,7 @@ int WdmFinish(void)
             tell_pool_leaks(i, false);
     tell_references();
     tell_locked_mdls();
+    tell_links_to_nothing();
     const size_t n = write_out();
     if (n < expected_entries())
         say("%zu entries are fewer than the %zu that the test expects", n, expected_entries());

@@ -39,7 +39,7 @@ static void take_seat(void)
     while (seat < MAX_SEATS && seat_taken[seat])
         seat++;
     if (seat == MAX_SEATS)
-        give_up("more than 64 threads at once");
+        reach_limit("more than 64 threads at once");
     seat_taken[seat] = true;
     self.seat = seat;
     if (!by_schedule)
@@ -47,6 +47,13 @@ static void take_seat(void)
     if (seat >= n_seats)
         n_seats = seat + 1;
     watch_thread();
+}
+
+/* A thread ends under a schedule. */
+void give_seat_back(void)
+{
+    if (self.seat >= 0)
+        seat_taken[self.seat] = false;
 }
 
 /* Whether another thread may go on before this call does. Calls that only prepare something have nothing to meet. */
@@ -229,7 +236,7 @@ int start_thread(void *(*run)(void *), void *context, const char *kind, void *fn
 {
     pthread_t thread;
     if (by_schedule) {
-        start_by_schedule(run, context, kind, fn, first);
+        let_thread_go(start_by_schedule(run, context, kind, fn, first));
         return 0;
     }
     pthread_attr_t attributes;
@@ -324,3 +331,6 @@ KPRIORITY KeSetPriorityThread(PKTHREAD Thread, KPRIORITY Priority)
     (void)Thread, (void)Priority;
     return 8;
 }
+
+/* One that a driver made, or that runs routines of drivers: not one of a program. */
+BOOLEAN PsIsSystemThread(PETHREAD Thread) { return Thread->start || (Thread == self.thread && self.is_driver); }

@@ -42,10 +42,23 @@ void tell_timers_left(int driver);
 void tell_calls_left(int driver);
 void tell_threads_left(int driver);
 void tell_links_left(int driver);
+void tell_links_to_nothing(void);
 int driver_of_file(const char *file);
 
-/* reached.c */
-void tell_unreached(FILE *out);
+/* reached.c, covered.c */
+void learn_reached(void);
+void function_ran(const void *fn);
+void routine_was_called(const void *fn, bool with_error);
+void cancel_routine_set(const void *fn, bool is_called);
+void request_came(int driver, UCHAR major, UCHAR minor);
+void learn_dispatches(void);
+void write_covered(FILE *out);
+
+/* packet_leaks.c */
+void packet_allocated(const Packet *p);
+void packet_freed(const Packet *p);
+bool is_packet_leak(const Packet *p);
+void tell_packet_leaks(void);
 
 /* objects.c, mdl.c, start_io.c: what wdm_ob.h, wdm_mm.h and wdm_hw.h have */
 bool is_referenced(PVOID object);
@@ -55,13 +68,47 @@ void tell_references(void);
 void forget_names(PDEVICE_OBJECT device);
 void reinitialize(PDRIVER_OBJECT driver);
 void tell_files_dereferenced(PVOID object);
-PFILE_OBJECT file_for(PDEVICE_OBJECT top, UCHAR major);
+
+/* files.c */
+PFILE_OBJECT file_for(PDEVICE_OBJECT top, UCHAR major, WDM_SITE at);
+void file_request_ended(const Packet *p);
+void let_closed_files_go(void);
+bool is_opened(PDEVICE_OBJECT device);
+void before_cleanup(PFILE_OBJECT file);
+void after_cleanup(PFILE_OBJECT file, WDM_SITE at);
+bool before_close(PFILE_OBJECT file, WDM_SITE at);
+void check_cleanup(const Packet *p, int by, ULONG status);
+NTSTATUS open_device(PDEVICE_OBJECT top, PFILE_OBJECT *file, WDM_SITE at);
+void clean_up(PFILE_OBJECT file, WDM_SITE at);
+void await_closed(PDEVICE_OBJECT pdo, bool only_mine);
+
+/* handles.c, properties.c */
+bool open_by_name(PHANDLE handle, const OBJECT_ATTRIBUTES *attributes, NTSTATUS *status);
+bool transfer_by_handle(HANDLE handle, UCHAR major, PIO_STATUS_BLOCK iosb, PVOID buffer, ULONG length, PLARGE_INTEGER offset);
+PDEVICE_OBJECT device_named(PCUNICODE_STRING name);
+
 void give_mdl(Packet *p);
+void lend_buffers(Packet *p, PVOID buffer, ULONG length, bool is_read);
+void end_lent_mdl(Packet *p);
 void tell_locked_mdls(void);
+
+/* built.c */
+PKEVENT hand_back(Packet *p);
+bool complete_kept(Packet *p);
+const char *never_set(void);
+
+/* unsent.c */
+bool exchange_own_cancel(Packet *p, PDRIVER_CANCEL routine, PDRIVER_CANCEL *old);
+bool run_own_cancel(Packet *p, KIRQL irql);
+void tell_own_cancel(Packet *p);
+bool is_moved_by_hand(Packet *p);
+bool complete_unsent(Packet *p);
 
 /* associated.c */
 bool is_associated(const Packet *p);
 void associated_ended(Packet *p);
+void take_own_location(Packet *p);
+PDEVICE_OBJECT own_device(Packet *p);
 
 /* traps.c, remove_locks.c */
 void open_traps(void);

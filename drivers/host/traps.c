@@ -4,11 +4,23 @@
  * The first touch of an ended packet is remembered by the handler, and told at the thread's next call: a driver that
  * completes twice writes IoStatus first, and then the completion is the cause that is told, not the touch.
  */
-#include "schedule.h"
+#include "snapshots.h"
 #include <sys/mman.h>
 
 static char *arena;
 static bool is_on;
+
+static void open_page(size_t i)
+{
+    mprotect(arena + i * PAGE, PAGE, PROT_READ | PROT_WRITE);
+    packet_page_opens(i);
+}
+
+static void close_page(size_t i)
+{
+    packet_page_closes(i);
+    mprotect(arena + i * PAGE, PAGE, PROT_NONE);
+}
 
 /* The instruction of a touch; where a function makes it that copies for its caller, the call of that. */
 static const void *toucher_of(const void *context)
@@ -53,7 +65,7 @@ static void touched(int signal_number, siginfo_t *info, void *context)
     if (others_open_it || (was_watched && (!is_watcher(p) || is_code_of_holder(p, toucher_of(context))))) {
         if (was_watched && is_watcher(p))
             self.opened = p;
-        mprotect(arena + i * PAGE, PAGE, PROT_READ | PROT_WRITE);
+        open_page(i);
         return;
     }
     if (!p || (!was_watched && p->trapped)) {
@@ -67,7 +79,7 @@ static void touched(int signal_number, siginfo_t *info, void *context)
     p->toucher = self.frames ? self.frames->device : NOBODY;
     p->toucher_calls = called_driver(p->touched_at);
     self.touched = p;
-    mprotect(arena + i * PAGE, PAGE, PROT_READ | PROT_WRITE);
+    open_page(i);
 }
 
 /* Once, before the first packet. */
@@ -78,9 +90,13 @@ void open_traps(void)
     arena = mmap(NULL, (size_t)MAX_PACKETS * PAGE, PROT_NONE, MAP_PRIVATE | MAP_ANONYMOUS | MAP_NORESERVE, -1, 0);
     if (arena == MAP_FAILED)
         give_up("no memory for packets");
+    track_packets(arena);
     is_on = !getenv("WDM_NO_TRAP");
     struct sigaction s = { .sa_sigaction = touched, .sa_flags = SA_SIGINFO | SA_ONSTACK };
-    sigaction(SIGSEGV, &s, NULL);
+    if (by_snapshots)
+        chain_handler(touched);
+    else
+        sigaction(SIGSEGV, &s, NULL);
     watch_for_the_end();
 }
 
@@ -131,13 +147,13 @@ void unprotect(Packet *p)
     __atomic_store_n(&p->shut, false, __ATOMIC_SEQ_CST);
     unwatch(p);
     if (is_in_page(p->irp))
-        mprotect(p->irp, PAGE, PROT_READ | PROT_WRITE);
+        open_page((size_t)((char *)p->irp - arena) / PAGE);
 }
 
 void protect(Packet *p)
 {
     if (is_on && !p->rides && is_in_page(p->irp))
-        mprotect(p->irp, PAGE, PROT_NONE);
+        close_page((size_t)((char *)p->irp - arena) / PAGE);
 }
 
 /* From its end on. Two threads may touch the page of a watched packet at once: who comes second finds it watched no more,

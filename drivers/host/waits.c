@@ -88,7 +88,7 @@ LONG WdmKeReleaseSemaphore(PKSEMAPHORE s, LONG n)
     return change(&s->Header, n, true);
 }
 
-VOID KeInitializeMutex(PKMUTEX m, ULONG level) { (void)level, make(&m->Header, MUTEX, true, 1), m->Owner = NULL; }
+VOID KeInitializeMutex(PKMUTEX m, ULONG level) { (void)level, make(&m->Header, MUTEX, true, 1), m->OwnerThread = NULL; }
 
 LONG KeReadStateEvent(PKEVENT e)
 {
@@ -127,7 +127,7 @@ LONG WdmKeSetEvent(PKEVENT e, WDM_SITE at)
 /* What a wait is for, under W. */
 typedef struct { ULONG n; PVOID *objects; WAIT_TYPE type; LONGLONG until; } Objects;
 
-static bool is_owner(const KMUTANT *m) { return m->Owner == (PVOID)this_thread(); }
+static bool is_owner(const KMUTANT *m) { return m->OwnerThread == (PVOID)this_thread(); }
 
 static bool can_be_taken(DISPATCHER_HEADER *h)
 {
@@ -142,7 +142,7 @@ static void take(DISPATCHER_HEADER *h)
     else if (h->Type != EVENT)
         h->SignalState--;
     if (h->Type == MUTEX)
-        ((KMUTANT *)h)->Owner = (PVOID)this_thread();
+        ((KMUTANT *)h)->OwnerThread = (PVOID)this_thread();
 }
 
 /* The first object that lets the wait end, or -1. For all objects that is the first one. */

@@ -87,7 +87,7 @@ static KMUTEX *mutex_of(CRITICAL_SECTION *section)
         sections[n_sections++].mutex = mutex;
     }
     if (!mutex)
-        give_up("more than 256 critical sections");
+        reach_limit("more than 256 critical sections");
     if (is_new)
         mutex->Header.SignalState = 0; /* taken until it is made */
     pthread_mutex_unlock(&host_lock);

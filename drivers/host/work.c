@@ -37,12 +37,27 @@ ULONG next_new_timer(ULONG most)
     PKTIMER next = NULL;
     hold_host("the host's own test", &timers, SYNCS);
     for (PKTIMER t = timers; t; t = t->HostNext)
-        if (t->Dpc && (!next || t->Due < next->Due))
+        if (t->Dpc && (!next || t->DueTime.QuadPart < next->DueTime.QuadPart))
             next = t;
-    const LONGLONG left = next ? (next->Due - now_in_100ns()) / 10000 + 1 : 0;
-    const bool is_wanted = next && left <= (LONGLONG)most && is_new(next->Dpc->Routine);
+    const LONGLONG left = next ? (next->DueTime.QuadPart - now_in_100ns()) / 10000 + 1 : 0;
+    const bool is_wanted = next && left <= (LONGLONG)most && is_new(next->Dpc->DeferredRoutine);
     pthread_mutex_unlock(&host_lock);
     return is_wanted ? (ULONG)(left > 1 ? left : 1) : 0;
+}
+
+/* The place, where it stays: the structures of the kit have room for its address. */
+static const WDM_SITE *kept_site(WDM_SITE at)
+{
+    static struct Kept { struct Kept *next; WDM_SITE site; } *sites;
+    for (struct Kept *k = sites; k; k = k->next)
+        if (k->site.file == at.file && k->site.line == at.line && k->site.function == at.function)
+            return &k->site;
+    struct Kept *k = calloc(1, sizeof *k);
+    if (!k)
+        give_up("out of memory");
+    *k = (struct Kept){ sites, at };
+    sites = k;
+    return &k->site;
 }
 
 /* Runs a driver's routine that no packet asked for, in its own frame. Under G before and after. */
@@ -66,8 +81,8 @@ void work_done(void)
 /* The clock's thread. A timer that is due is signalled, and its deferred call queued. */
 static void queue_dpc(PKDPC dpc)
 {
-    if (!dpc->Queued && n_dpcs < MAX_DPCS) {
-        dpc->Queued = TRUE;
+    if (!dpc->HostIsQueued && n_dpcs < MAX_DPCS) {
+        dpc->HostIsQueued = TRUE;
         dpcs[n_dpcs++] = dpc;
     }
 }
@@ -79,7 +94,7 @@ static void take_out(PKTIMER timer)
             *t = timer->HostNext;
             break;
         }
-    timer->Armed = FALSE;
+    timer->Header.Inserted = FALSE;
     n_armed -= timer->Period == 0;
 }
 
@@ -106,7 +121,7 @@ PKDPC take_dpc_in(const void *from, size_t size)
         if (lies_in(dpcs[i], from, size)) {
             PKDPC d = dpcs[i];
             memmove(dpcs + i, dpcs + i + 1, (size_t)(--n_dpcs - i) * sizeof *dpcs);
-            d->Queued = FALSE;
+            d->HostIsQueued = FALSE;
             return d;
         }
     return NULL;
@@ -115,8 +130,8 @@ PKDPC take_dpc_in(const void *from, size_t size)
 void tell_timers_left(int driver)
 {
     for (PKTIMER t = timers; t; t = t->HostNext)
-        if ((t->Dpc ? t->Dpc->HostDriver : driver_of_file(t->HostSet.file)) == driver)
-            left_behind("the timer that was set here", "KeSetTimer", t->HostSet);
+        if ((t->Dpc ? t->Dpc->HostDriver : driver_of_file(t->HostSet->file)) == driver)
+            left_behind("the timer that was set here", "KeSetTimer", *t->HostSet);
 }
 
 /* Before the host lets them run: DriverUnload has to wait for them by KeFlushQueuedDpcs. */
@@ -124,7 +139,7 @@ void tell_calls_left(int driver)
 {
     for (int i = 0; i < n_dpcs; i++)
         if (dpcs[i]->HostDriver == driver)
-            left_behind("the deferred call that was queued here", "KeInsertQueueDpc", dpcs[i]->HostQueued);
+            left_behind("the deferred call that was queued here", "KeInsertQueueDpc", *dpcs[i]->HostQueued);
 }
 
 /* Lets the timers that are due go off. */
@@ -133,9 +148,9 @@ static void ring(void)
     const LONGLONG now = now_in_100ns();
     for (PKTIMER t = timers, after; t; t = after) {
         after = t->HostNext;
-        if (t->Due <= now) {
+        if (t->DueTime.QuadPart <= now) {
             if (t->Period)
-                t->Due = now + (LONGLONG)t->Period * 10000;
+                t->DueTime.QuadPart = now + (LONGLONG)t->Period * 10000;
             else
                 take_out(t);
             set_event((PKEVENT)t);
@@ -160,8 +175,8 @@ static LONGLONG next_due(const void *context)
     LONGLONG next = 0;
     (void)context;
     for (PKTIMER t = timers; t; t = t->HostNext)
-        if (!next || t->Due < next)
-            next = t->Due;
+        if (!next || t->DueTime.QuadPart < next)
+            next = t->DueTime.QuadPart;
     return next;
 }
 
@@ -175,10 +190,10 @@ static Wait until_due(int number)
 static void run_dpc(void)
 {
     PKDPC d = dpcs[0];
-    PKDEFERRED_ROUTINE routine = d->Routine;
-    PVOID its = d->Context, one = d->Argument1, two = d->Argument2;
+    PKDEFERRED_ROUTINE routine = d->DeferredRoutine;
+    PVOID its = d->DeferredContext, one = d->SystemArgument1, two = d->SystemArgument2;
     memmove(dpcs, dpcs + 1, (size_t)--n_dpcs * sizeof *dpcs);
-    d->Queued = FALSE;
+    d->HostIsQueued = FALSE;
     n_running++;
     Frame f = { .kind = WORK, .fn = (void *)routine, .device = NOBODY, .settled = true, .irql = DISPATCH_LEVEL };
     run_work(&f, d->HostDriver);
@@ -230,9 +245,22 @@ static void start_clock(void)
     tell_waiters(&clock_changed);
 }
 
+static bool is_armed(const KTIMER *timer)
+{
+    const KTIMER *t = timers;
+    while (t && t != timer)
+        t = t->HostNext;
+    return t;
+}
+
+/* One that is armed goes off no more. What Windows does with it then isn't known; the others stay armed. */
 VOID KeInitializeTimerEx(PKTIMER Timer, TIMER_TYPE Type)
 {
     KEVENT *e = (KEVENT *)Timer;
+    hold_host("KeInitializeTimer", &timers, SYNCS);
+    if (is_armed(Timer))
+        take_out(Timer);
+    pthread_mutex_unlock(&host_lock);
     memset(Timer, 0, sizeof *Timer);
     WdmKeInitializeEvent(e, Type == SynchronizationTimer ? SynchronizationEvent : NotificationEvent, FALSE);
 }
@@ -243,15 +271,15 @@ BOOLEAN WdmKeSetTimer(PKTIMER Timer, LARGE_INTEGER DueTime, LONG Period, PKDPC D
     enter_host(&c, "KeSetTimer", at);
     check_used(Timer, "timer");
     hands_over();
-    const BOOLEAN was = Timer->Armed;
+    const BOOLEAN was = Timer->Header.Inserted;
     if (was)
         take_out(Timer);
     clear_event((PKEVENT)Timer);
-    Timer->Due = DueTime.QuadPart <= 0 ? now_in_100ns() - DueTime.QuadPart : DueTime.QuadPart;
-    Timer->Period = Period;
+    Timer->DueTime.QuadPart = DueTime.QuadPart <= 0 ? now_in_100ns() - DueTime.QuadPart : DueTime.QuadPart;
+    Timer->Period = (ULONG)Period;
     Timer->Dpc = Dpc;
-    Timer->Armed = TRUE;
-    Timer->HostSet = at;
+    Timer->Header.Inserted = TRUE;
+    Timer->HostSet = kept_site(at);
     Timer->HostNext = timers;
     timers = Timer;
     n_armed += Period == 0;
@@ -265,7 +293,7 @@ BOOLEAN KeCancelTimer(PKTIMER Timer)
     Call c;
     enter_host(&c, "KeCancelTimer", (WDM_SITE){ 0 });
     touch(&timers, SYNCS);
-    const BOOLEAN was = Timer->Armed;
+    const BOOLEAN was = Timer->Header.Inserted;
     if (was)
         take_out(Timer);
     leave_host();
@@ -278,7 +306,7 @@ VOID WdmKeInitializeDpc(PKDPC Dpc, PKDEFERRED_ROUTINE Routine, PVOID Context, WD
 {
     Call c;
     enter_host(&c, "KeInitializeDpc", at);
-    *Dpc = (KDPC){ .Routine = Routine, .Context = Context, .HostDriver = calling_driver() };
+    *Dpc = (KDPC){ .DeferredRoutine = Routine, .DeferredContext = Context, .HostDriver = calling_driver() };
     leave_host();
 }
 
@@ -287,13 +315,13 @@ BOOLEAN KeRemoveQueueDpc(PKDPC Dpc)
     Call c;
     enter_host(&c, "KeRemoveQueueDpc", (WDM_SITE){ 0 });
     touch(&timers, SYNCS);
-    const BOOLEAN was = Dpc->Queued;
+    const BOOLEAN was = Dpc->HostIsQueued;
     for (int i = 0; was && i < n_dpcs; i++)
         if (dpcs[i] == Dpc) {
             memmove(dpcs + i, dpcs + i + 1, (size_t)(--n_dpcs - i) * sizeof *dpcs);
             break;
         }
-    Dpc->Queued = FALSE;
+    Dpc->HostIsQueued = FALSE;
     leave_host();
     return was;
 }
@@ -305,11 +333,11 @@ BOOLEAN WdmKeInsertQueueDpc(PKDPC Dpc, PVOID Argument1, PVOID Argument2, WDM_SIT
     check_used(Dpc, "deferred call");
     hands_over();
     touch(&timers, SYNCS);
-    const BOOLEAN queued = !Dpc->Queued;
+    const BOOLEAN queued = !Dpc->HostIsQueued;
     if (queued) {
-        Dpc->Argument1 = Argument1;
-        Dpc->Argument2 = Argument2;
-        Dpc->HostQueued = at;
+        Dpc->SystemArgument1 = Argument1;
+        Dpc->SystemArgument2 = Argument2;
+        Dpc->HostQueued = kept_site(at);
         queue_dpc(Dpc);
         start_clock();
     }

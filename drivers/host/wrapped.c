@@ -27,11 +27,19 @@ int wdm_pthread_join(pthread_t t, void **result)
         give_up("a thread that is joined never ends");
     has_ended(n, result);
     after_end_of(n);
+    let_thread_go(n);
     return 0;
 }
 
 int wdm_pthread_detach(pthread_t t);
-int wdm_pthread_detach(pthread_t t) { return by_schedule ? 0 : pthread_detach(t); }
+int wdm_pthread_detach(pthread_t t)
+{
+    if (!by_schedule)
+        return pthread_detach(t);
+    let_thread_go((int)t - 1);
+    return 0;
+}
+
 pthread_t wdm_pthread_self(void);
 pthread_t wdm_pthread_self(void) { return this_thread(); }
 void wdm_pthread_exit(void *result);

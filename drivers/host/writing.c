@@ -40,7 +40,7 @@ static int id_in(void **table, int *n, void *fn)
         if (table[i] == fn)
             return i;
     if (*n == MAX_IDS)
-        give_up("more than 256 routines of one kind");
+        reach_limit("more than 256 routines of one kind");
     table[*n] = fn;
     return (*n)++;
 }

@@ -10,7 +10,7 @@ static NTSTATUS Read(PDEVICE_OBJECT DeviceObject, PIRP Irp)
 {
     LARGE_INTEGER due = { .QuadPart = -600000000 };
     KeInitializeDpc(&dpc, Deferred, NULL);
-    if (!timer.Armed)
+    if (!timer.Header.Inserted)
         KeInitializeTimer(&timer);
     KeSetTimer(&timer, due, &dpc);
     return Complete(Irp, STATUS_SUCCESS);

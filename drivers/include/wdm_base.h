@@ -158,5 +158,6 @@ static inline PVOID WdmInterlockedCompareExchangePointer(PVOID volatile *p, PVOI
 
 VOID WdmPagedCode(WDM_SITE at);
 #define PAGED_CODE() WdmPagedCode(WDM_HERE)
+#define ALLOC_PRAGMA 1 /* there is `#pragma alloc_text`: which functions it names is read from the source (pageable.py) */
 
 #endif

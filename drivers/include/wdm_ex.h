@@ -78,6 +78,7 @@ NTSTATUS ExInitializeResourceLite(PERESOURCE Resource);
 NTSTATUS ExReinitializeResourceLite(PERESOURCE Resource);
 NTSTATUS WdmExDeleteResource(PERESOURCE Resource, WDM_SITE at);
 BOOLEAN WdmExAcquireResource(PERESOURCE Resource, BOOLEAN Exclusive, BOOLEAN Wait, WDM_SITE at);
+BOOLEAN WdmExAcquireStarving(PERESOURCE Resource, BOOLEAN Wait, WDM_SITE at);
 VOID WdmExReleaseResource(PERESOURCE Resource, WDM_SITE at);
 BOOLEAN ExIsResourceAcquiredExclusiveLite(PERESOURCE Resource);
 ULONG ExIsResourceAcquiredSharedLite(PERESOURCE Resource);
@@ -85,7 +86,8 @@ VOID ExConvertExclusiveToSharedLite(PERESOURCE Resource);
 #define ExDeleteResourceLite(resource) WdmExDeleteResource((resource), WDM_HERE)
 #define ExAcquireResourceExclusiveLite(resource, wait) WdmExAcquireResource((resource), TRUE, (BOOLEAN)(wait), WDM_HERE)
 #define ExAcquireResourceSharedLite(resource, wait) WdmExAcquireResource((resource), FALSE, (BOOLEAN)(wait), WDM_HERE)
-#define ExAcquireSharedStarveExclusive ExAcquireResourceSharedLite
+#define ExAcquireSharedStarveExclusive(resource, wait) \
+    WdmExAcquireStarving((resource), (BOOLEAN)(wait), WDM_HERE)
 #define ExTryToAcquireResourceExclusiveLite(resource) WdmExAcquireResource((resource), TRUE, FALSE, WDM_HERE)
 #define ExReleaseResourceLite(resource) WdmExReleaseResource((resource), WDM_HERE)
 #define ExReleaseResourceForThreadLite(resource, thread) ((void)(thread), WdmExReleaseResource((resource), WDM_HERE))

@@ -8,10 +8,10 @@
 NTSTATUS WdmIoCreateDevice(PDRIVER_OBJECT Driver, ULONG Extension, DEVICE_TYPE Type, ULONG Characteristics,
                            PDEVICE_OBJECT *Device, WDM_SITE at);
 NTSTATUS WdmIoCreateNamedDevice(PDRIVER_OBJECT Driver, ULONG Extension, PUNICODE_STRING Name, DEVICE_TYPE Type,
-                                ULONG Characteristics, PDEVICE_OBJECT *Device, WDM_SITE at);
+                                ULONG Characteristics, BOOLEAN Exclusive, PDEVICE_OBJECT *Device, WDM_SITE at);
 #define IoCreateDevice(driver, extension, name, type, characteristics, exclusive, device) \
-    ((void)(exclusive), WdmIoCreateNamedDevice((driver), (extension), (PUNICODE_STRING)(name), (type), \
-                                               (characteristics), (device), WDM_HERE))
+    WdmIoCreateNamedDevice((driver), (extension), (PUNICODE_STRING)(name), (type), (characteristics), \
+                           (BOOLEAN)(exclusive), (device), WDM_HERE)
 #define IoCreateDeviceSecure(driver, extension, name, type, characteristics, exclusive, sddl, guid, device) \
     ((void)(sddl), (void)(guid), IoCreateDevice(driver, extension, name, type, characteristics, exclusive, device))
 PDEVICE_OBJECT WdmIoAttachDevice(PDEVICE_OBJECT Device, PDEVICE_OBJECT Target, WDM_SITE at);
@@ -27,6 +27,7 @@ PDEVICE_OBJECT IoGetAttachedDevice(PDEVICE_OBJECT Device);
 PDEVICE_OBJECT WdmIoGetAttachedDeviceReference(PDEVICE_OBJECT Device, WDM_SITE at);
 #define IoGetAttachedDeviceReference(device) WdmIoGetAttachedDeviceReference((device), WDM_HERE)
 PDEVICE_OBJECT WdmIoGetLowerDeviceObject(PDEVICE_OBJECT Device, WDM_SITE at);
+PDEVICE_OBJECT IoGetRelatedDeviceObject(PFILE_OBJECT File);
 #define IoGetLowerDeviceObject(device) WdmIoGetLowerDeviceObject((device), WDM_HERE)
 #define IoAttachDevice(device, name, lower) WdmIoAttachDeviceByName((device), (name), (lower), WDM_HERE)
 NTSTATUS WdmIoAttachDeviceByName(PDEVICE_OBJECT Device, PUNICODE_STRING Name, PDEVICE_OBJECT *Lower, WDM_SITE at);
@@ -43,8 +44,8 @@ VOID IoRegisterDriverReinitialization(PDRIVER_OBJECT Driver, PDRIVER_REINITIALIZ
 #define IoRegisterLastChanceShutdownNotification(device) ((void)(device), STATUS_SUCCESS)
 #define IoUnregisterShutdownNotification(device) ((void)(device))
 #define IoGetInitialStack() ((PVOID)0)
-#define IoGetStackLimits(low, high) ((void)(*(low) = 0, *(high) = UINTPTR_MAX))
-#define IoGetRemainingStackSize() ((ULONG_PTR)0x4000)
+VOID IoGetStackLimits(PULONG_PTR Low, PULONG_PTR High);
+ULONG_PTR IoGetRemainingStackSize(VOID);
 
 /* Names, links, interfaces, properties: what Plug and Play keeps of devices. */
 NTSTATUS WdmIoCreateSymbolicLink(PUNICODE_STRING Link, PUNICODE_STRING Device, WDM_SITE at);
@@ -57,7 +58,9 @@ NTSTATUS WdmIoRegisterDeviceInterface(PDEVICE_OBJECT Device, const GUID *Class, 
                                       PUNICODE_STRING Link, WDM_SITE at);
 #define IoRegisterDeviceInterface(device, class, reference, link) \
     WdmIoRegisterDeviceInterface((device), (class), (reference), (link), WDM_HERE)
-NTSTATUS IoSetDeviceInterfaceState(PUNICODE_STRING Link, BOOLEAN Enable);
+NTSTATUS WdmIoSetInterfaceState(PUNICODE_STRING Link, BOOLEAN Enable, WDM_SITE at);
+#define IoSetDeviceInterfaceState(link, enable) \
+    (WdmAtLevel("IoSetDeviceInterfaceState", WDM_HERE), WdmIoSetInterfaceState((link), (enable), WDM_HERE))
 NTSTATUS WdmIoGetDeviceInterfaces(const GUID *Class, PDEVICE_OBJECT Device, ULONG Flags, PWSTR *Links, WDM_SITE at);
 #define IoGetDeviceInterfaces(class, device, flags, links) \
     WdmIoGetDeviceInterfaces((class), (device), (flags), (links), WDM_HERE)
@@ -214,14 +217,15 @@ typedef IO_CSQ_RELEASE_LOCK *PIO_CSQ_RELEASE_LOCK;
 typedef IO_CSQ_COMPLETE_CANCELED_IRP *PIO_CSQ_COMPLETE_CANCELED_IRP;
 struct _IO_CSQ {
     ULONG Type;
-    PIO_CSQ_INSERT_IRP CsqInsertIrp;
-    PIO_CSQ_INSERT_IRP_EX CsqInsertIrpEx;
+    union { PIO_CSQ_INSERT_IRP CsqInsertIrp; PIO_CSQ_INSERT_IRP_EX CsqInsertIrpEx; }; /* the second by Type */
     PIO_CSQ_REMOVE_IRP CsqRemoveIrp;
     PIO_CSQ_PEEK_NEXT_IRP CsqPeekNextIrp;
     PIO_CSQ_ACQUIRE_LOCK CsqAcquireLock;
     PIO_CSQ_RELEASE_LOCK CsqReleaseLock;
     PIO_CSQ_COMPLETE_CANCELED_IRP CsqCompleteCanceledIrp;
+    PVOID ReservePointer;
 };
+enum { IO_TYPE_CSQ_IRP_CONTEXT = 1, IO_TYPE_CSQ = 2, IO_TYPE_CSQ_EX = 3 };
 NTSTATUS IoCsqInitialize(PIO_CSQ Csq, PIO_CSQ_INSERT_IRP Insert, PIO_CSQ_REMOVE_IRP Remove, PIO_CSQ_PEEK_NEXT_IRP Peek,
                          PIO_CSQ_ACQUIRE_LOCK Acquire, PIO_CSQ_RELEASE_LOCK Release,
                          PIO_CSQ_COMPLETE_CANCELED_IRP Complete);

@@ -18,29 +18,39 @@ typedef struct _KWAIT_BLOCK { PVOID Object; } KWAIT_BLOCK, *PKWAIT_BLOCK;
 #define THREAD_WAIT_OBJECTS 3
 #define MAXIMUM_WAIT_OBJECTS 64
 
-/* What can be waited for. Their contents are the host's. */
-typedef struct _DISPATCHER_HEADER { UCHAR Type; UCHAR Synchronizes; LONG SignalState; } DISPATCHER_HEADER;
+/* What can be waited for: laid out as in Windows on x64. What names begin with Host stands where nobody but the host looks. */
+typedef struct _DISPATCHER_HEADER {
+    UCHAR Type, Synchronizes, Size, Inserted;
+    LONG SignalState;
+    LIST_ENTRY WaitListHead;
+} DISPATCHER_HEADER;
 typedef struct _KEVENT { DISPATCHER_HEADER Header; } KEVENT, *PKEVENT, *PRKEVENT;
 typedef struct _KSEMAPHORE { DISPATCHER_HEADER Header; LONG Limit; } KSEMAPHORE, *PKSEMAPHORE;
-typedef struct _KMUTANT { DISPATCHER_HEADER Header; PVOID Owner; } KMUTANT, KMUTEX, *PKMUTEX;
+typedef struct _KMUTANT {
+    DISPATCHER_HEADER Header;
+    LIST_ENTRY MutantListEntry;
+    PVOID OwnerThread;
+    BOOLEAN Abandoned;
+    UCHAR ApcDisable;
+} KMUTANT, KMUTEX, *PKMUTEX;
 typedef struct _KDPC *PKDPC;
 typedef VOID KDEFERRED_ROUTINE(PKDPC Dpc, PVOID Context, PVOID Argument1, PVOID Argument2);
 typedef KDEFERRED_ROUTINE *PKDEFERRED_ROUTINE;
 typedef struct _KDPC {
-    PKDEFERRED_ROUTINE Routine;
-    PVOID Context, Argument1, Argument2;
-    BOOLEAN Queued;
-    int HostDriver;
-    WDM_SITE HostQueued;
+    UCHAR Type, Importance;
+    USHORT Number;
+    union { SINGLE_LIST_ENTRY DpcListEntry; const WDM_SITE *HostQueued; };
+    union { ULONG_PTR ProcessorHistory; int HostDriver; };
+    PKDEFERRED_ROUTINE DeferredRoutine;
+    PVOID DeferredContext, SystemArgument1, SystemArgument2;
+    union { PVOID DpcData; ULONG_PTR HostIsQueued; };
 } KDPC;
 typedef struct _KTIMER {
-    DISPATCHER_HEADER Header;
-    BOOLEAN Armed;
-    LONGLONG Due;
-    LONG Period;
+    DISPATCHER_HEADER Header; /* Inserted while it is armed */
+    LARGE_INTEGER DueTime;
+    union { LIST_ENTRY TimerListEntry; struct { struct _KTIMER *HostNext; const WDM_SITE *HostSet; }; };
     PKDPC Dpc;
-    struct _KTIMER *HostNext;
-    WDM_SITE HostSet;
+    ULONG Processor, Period;
 } KTIMER, *PKTIMER;
 typedef struct _KTHREAD *PKTHREAD, *PETHREAD;
 
@@ -112,7 +122,12 @@ VOID WdmKeLowerIrql(KIRQL Irql, WDM_SITE at);
 PLIST_ENTRY ExInterlockedInsertTailList(PLIST_ENTRY Head, PLIST_ENTRY Entry, PKSPIN_LOCK Lock);
 PLIST_ENTRY ExInterlockedInsertHeadList(PLIST_ENTRY Head, PLIST_ENTRY Entry, PKSPIN_LOCK Lock);
 PLIST_ENTRY ExInterlockedRemoveHeadList(PLIST_ENTRY Head, PKSPIN_LOCK Lock);
-typedef struct _FAST_MUTEX { KMUTEX Mutex; KIRQL OldIrql; } FAST_MUTEX, *PFAST_MUTEX;
+typedef struct _FAST_MUTEX {
+    union {
+        struct { LONG Count; PVOID Owner; ULONG Contention; KEVENT Event; ULONG OldIrql; };
+        KMUTEX Mutex;
+    };
+} FAST_MUTEX, *PFAST_MUTEX;
 #define ExInitializeFastMutex(m) KeInitializeMutex(&(m)->Mutex, 0)
 VOID WdmExAcquireFastMutex(PFAST_MUTEX Mutex, WDM_SITE at);
 VOID WdmExReleaseFastMutex(PFAST_MUTEX Mutex, WDM_SITE at);

@@ -33,7 +33,6 @@ VOID WdmAtLevel(const char *Name, WDM_SITE at);
 #define RtlDeleteRegistryValue(...) WDM_LOW(RtlDeleteRegistryValue, __VA_ARGS__)
 #define IoOpenDeviceRegistryKey(...) WDM_LOW(IoOpenDeviceRegistryKey, __VA_ARGS__)
 #define IoGetDeviceProperty(...) WDM_LOW(IoGetDeviceProperty, __VA_ARGS__)
-#define IoSetDeviceInterfaceState(...) WDM_LOW(IoSetDeviceInterfaceState, __VA_ARGS__)
 #define IoReportTargetDeviceChange(...) WDM_LOW(IoReportTargetDeviceChange, __VA_ARGS__)
 #define IoDeleteSymbolicLink(...) WDM_LOW(IoDeleteSymbolicLink, __VA_ARGS__)
 #define IoInitializeTimer(...) WDM_LOW(IoInitializeTimer, __VA_ARGS__)

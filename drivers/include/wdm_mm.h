@@ -49,12 +49,12 @@ typedef struct _MDL {
 #define MmInitializeMdl(mdl, va, n) \
     ((void)(*(mdl) = (MDL){ .Size = (CSHORT)MmSizeOfMdl((va), (n)), .StartVa = PAGE_ALIGN(va), \
                             .ByteOffset = BYTE_OFFSET(va), .ByteCount = (ULONG)(n) }))
-PVOID WdmMmMapMdl(PMDL Mdl, WDM_SITE at);
-#define MmGetSystemAddressForMdlSafe(mdl, priority) ((void)(priority), WdmMmMapMdl((mdl), WDM_HERE))
-#define MmGetSystemAddressForMdl(mdl) WdmMmMapMdl((mdl), WDM_HERE)
-#define MmMapLockedPages(mdl, mode) ((void)(mode), WdmMmMapMdl((mdl), WDM_HERE))
+PVOID WdmMmMapMdl(PMDL Mdl, BOOLEAN MayFail, WDM_SITE at);
+#define MmGetSystemAddressForMdlSafe(mdl, priority) ((void)(priority), WdmMmMapMdl((mdl), TRUE, WDM_HERE))
+#define MmGetSystemAddressForMdl(mdl) WdmMmMapMdl((mdl), FALSE, WDM_HERE)
+#define MmMapLockedPages(mdl, mode) ((void)(mode), WdmMmMapMdl((mdl), FALSE, WDM_HERE))
 #define MmMapLockedPagesSpecifyCache(mdl, mode, cache, base, bug, priority) \
-    ((void)(mode), (void)(cache), (void)(base), (void)(bug), (void)(priority), WdmMmMapMdl((mdl), WDM_HERE))
+    ((void)(mode), (void)(cache), (void)(base), (void)(priority), WdmMmMapMdl((mdl), !(bug), WDM_HERE))
 VOID WdmMmUnmapLockedPages(PVOID Base, PMDL Mdl, WDM_SITE at);
 VOID WdmMmProbeAndLockPages(PMDL Mdl, LOCK_OPERATION Operation, WDM_SITE at);
 VOID WdmMmUnlockPages(PMDL Mdl, WDM_SITE at);

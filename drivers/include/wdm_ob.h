@@ -72,7 +72,8 @@ HANDLE PsGetCurrentThreadId(VOID);
 HANDLE PsGetThreadId(PETHREAD Thread);
 #define PsGetCurrentProcessId() ((HANDLE)(ULONG_PTR)4)
 #define PsGetProcessId(process) ((void)(process), PsGetCurrentProcessId())
-#define PsIsSystemThread(thread) ((void)(thread), TRUE)
+BOOLEAN PsIsSystemThread(PETHREAD Thread);
+KPROCESSOR_MODE ExGetPreviousMode(VOID);
 #define ZwCurrentProcess() ((HANDLE)(LONG_PTR)-1)
 #define NtCurrentProcess ZwCurrentProcess
 #define ZwCurrentThread() ((HANDLE)(LONG_PTR)-2)

@@ -67,16 +67,18 @@ struct _DEVICE_OBJECT {
     PVOID DeviceExtension;
     DEVICE_TYPE DeviceType;
     CCHAR StackSize;
+    union { LIST_ENTRY ListEntry; ULONG_PTR Wcb[9]; } Queue;
     ULONG AlignmentRequirement;
     KDEVICE_QUEUE DeviceQueue;
     KDPC Dpc;
+    ULONG ActiveThreadCount;
     PSECURITY_DESCRIPTOR SecurityDescriptor;
     KEVENT DeviceLock;
-    USHORT SectorSize;
+    USHORT SectorSize, Spare1;
     PVOID DeviceObjectExtension;
-    int HostNumber;
+    union { PVOID Reserved; PVOID HostDpcRoutine; };
+    int HostNumber; /* this and the next one: the room that the kit's alignment leaves */
     ULONG HostExtensionSize;
-    PVOID HostDpcRoutine;
 };
 typedef struct _FILE_OBJECT {
     CSHORT Type, Size;
@@ -90,9 +92,12 @@ typedef struct _FILE_OBJECT {
     UNICODE_STRING FileName;
     LARGE_INTEGER CurrentByteOffset;
     ULONG Waiters, Busy;
+    PVOID LastLock;
     KEVENT Lock, Event;
     PVOID CompletionContext;
-    BOOLEAN HostCloses; /* with its last reference: IoGetDeviceObjectPointer opened it */
+    KSPIN_LOCK IrpListLock;
+    LIST_ENTRY IrpList;
+    union { PVOID FileObjectExtension; BOOLEAN HostCloses; }; /* with its last reference: its handle is closed */
 } FILE_OBJECT, *PFILE_OBJECT;
 
 struct _IO_STATUS_BLOCK {
@@ -217,6 +222,7 @@ struct _IRP {
             union { PIO_STACK_LOCATION CurrentStackLocation; ULONG PacketType; };
             PFILE_OBJECT OriginalFileObject;
         } Overlay;
+        struct { ULONG_PTR Words[11]; } Apc;
         PVOID CompletionKey;
     } Tail;
 };

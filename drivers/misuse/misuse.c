@@ -132,7 +132,7 @@ static VOID TooDeep(PEXTENSION Ext, PIRP Irp)
     ULONG n = 0;
     while (n < ARRAYSIZE(made) && NT_SUCCESS(IoCreateDevice(Ext->Self->DriverObject, 0, NULL, 0, 0, FALSE, &made[n])) &&
            (!n || (below = IoAttachDeviceToDeviceStack(made[n], made[n - 1])) != NULL)) /* told: TooDeep */
-        n++;
+        made[n++]->Flags &= ~(ULONG)DO_DEVICE_INITIALIZING;
     IoDeleteDevice(made[n]);
     while (n-- > 1) {
         IoDetachDevice(made[n - 1]);

@@ -208,10 +208,13 @@ VOID IrpxCompleteRequest(PIRP Irp, CCHAR Boost, const char *File)
     }
     p->last = by;
     p->rising = TRUE;
+    p->completing++;
     irpx_prepare_nothing(p);
     irpx_leave();
     IoCompleteRequest(Irp, Boost);
     irpx_enter();
+    if (p->use == use)
+        p->completing--;
     if (p->use == use && p->open == e)
         irpx_ended(p, use, e);
     irpx_leave();

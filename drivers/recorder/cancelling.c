@@ -14,8 +14,11 @@ void irpx_tell_ghost(IrpxPacket *p)
 /* The cancel that is on its way, or one by code without the recorder. It has its place from now on. */
 static IrpxEntry *take_cancel(IrpxPacket *p)
 {
-    IrpxEntry *e = p->canceller ? p->canceller : irpx_begin(IRPX_CANCEL, p, IRPX_ORIGINATOR);
-    p->canceller = NULL;
+    IrpxEntry *e = irpx.seats[irpx.me].cancel; /* a cancel routine runs on the thread that cancels */
+    if (!e || e->p != p || e->sealed)
+        e = p->canceller ? p->canceller : irpx_begin(IRPX_CANCEL, p, IRPX_ORIGINATOR);
+    if (p->canceller == e)
+        p->canceller = NULL;
     p->flag = TRUE;
     e->reply = IRPX_CANCELLED;
     return e;
@@ -123,19 +126,35 @@ PDRIVER_CANCEL IrpxSetCancelRoutine(PIRP Irp, PDRIVER_CANCEL Routine, const char
     return before;
 }
 
+/* Whether another thread's cancel has taken the routine, and has no place yet: it comes before one that found none. */
+static BOOLEAN other_cancel_first(const IrpxPacket *p, const IrpxEntry *e)
+{
+    if (!p->irp || e->sealed || p->cancels < 2)
+        return FALSE;
+    if (p->routine && !p->irp->CancelRoutine)
+        return TRUE;
+    return p->open && p->open != e && p->open->op == IRPX_CANCEL && !p->open->sealed && p->open->seat != irpx.me;
+}
+
 BOOLEAN IrpxCancelIrp(PIRP Irp)
 {
     irpx_enter();
     IrpxPacket *p = irpx_packet(Irp, NULL);
     IrpxEntry *e = irpx_begin(IRPX_CANCEL, p, IRPX_ORIGINATOR);
     const uint64_t use = p->use;
-    const BOOLEAN other = Irp->CancelRoutine && !p->routine; /* one of the kit's, as a cancel-safe queue sets: not seen */
+    /* One of the kit's, as a cancel-safe queue sets: it isn't seen. */
+    const BOOLEAN other = Irp->CancelRoutine && !p->routine;
+    IrpxEntry *outer = irpx.seats[irpx.me].cancel;
     if (!p->canceller)
         p->canceller = e;
     p->cancels++;
+    irpx.seats[irpx.me].cancel = e;
     irpx_leave();
     const BOOLEAN was = IoCancelIrp(Irp);
     irpx_enter();
+    irpx.seats[irpx.me].cancel = outer;
+    for (int i = 0; i < 1000000 && !was && p->use == use && other_cancel_first(p, e); i++)
+        irpx_pause();
     if (p->use == use) {
         p->cancels--;
         p->flag = TRUE;

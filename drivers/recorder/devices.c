@@ -186,12 +186,14 @@ VOID IrpxDetachDevice(PDEVICE_OBJECT Lower)
     IoDetachDevice(Lower);
 }
 
-/* Whether another thread is completing a packet, and hasn't come back from it: its entry has no place yet. */
-static BOOLEAN is_one_rising(void)
+/* Whether another thread is completing a packet, and hasn't come back from it: its entry has no place yet. With
+   `is_recorded`, only one whose completion went through the recorder, which is told when that returns. */
+static BOOLEAN is_one_rising(BOOLEAN is_recorded)
 {
     for (unsigned i = 0; i < irpx.n_packets; i++) {
         const IrpxPacket *p = irpx.packets[i];
-        if (p->irp && p->open && p->open->seat != irpx.me && (p->rising || !p->asking))
+        const BOOLEAN rises = is_recorded ? p->completing > 0 : p->rising || !p->asking;
+        if (p->irp && p->open && p->open->seat != irpx.me && rises)
             return TRUE;
     }
     return FALSE;
@@ -202,7 +204,7 @@ static void end_what_rises(void)
 {
     for (unsigned i = 0; i < irpx.n_packets; i++) {
         IrpxPacket *p = irpx.packets[i];
-        if (p->irp && p->open && p->rising && !p->asking)
+        if (p->irp && p->open && p->rising && !p->asking && !p->completing)
             irpx_ended(p, p->use, p->open);
     }
 }
@@ -211,7 +213,9 @@ static void end_what_rises(void)
 VOID IrpxDeleteDevice(PDEVICE_OBJECT Device)
 {
     irpx_enter();
-    for (int i = 0; i < 1000 && is_one_rising(); i++)
+    for (int i = 0; i < 1000 && is_one_rising(FALSE); i++)
+        irpx_pause();
+    for (int i = 0; i < 1000000 && is_one_rising(TRUE); i++) /* that one comes back, however late */
         irpx_pause();
     end_what_rises();
     IrpxEntry *e = irpx_begin(IRPX_DELETE, NULL, IRPX_ORIGINATOR);

@@ -103,6 +103,7 @@ struct IrpxPacket {
     PIRP irp, gone; /* irp: NULL where the slot is free; gone: what it was */
     unsigned slot;
     int size, owner, last, allocator, cancels; /* cancels: how many run on it now */
+    int completing; /* recorded completions of it that haven't returned */
     uint64_t use, information, sent_information, sent_word;
     ULONG status, sent_status;
     BOOLEAN touched, copied, skipped; /* done, and in no entry yet */
@@ -133,7 +134,7 @@ typedef struct {
     PDRIVER_DISPATCH unhandled;
     IrpxEntry *first, *last, *made;
     IrpxSetting *settings;
-    struct { uintptr_t thread; IrpxFrame *frames; } seats[IRPX_SEATS];
+    struct { uintptr_t thread; IrpxFrame *frames; IrpxEntry *cancel; } seats[IRPX_SEATS];
     struct { PDEVICE_OBJECT raw; int driver; BOOLEAN live, seen; IrpxEntry *put_off; } devices[IRPX_DEVICES];
     IrpxDriver drivers[IRPX_DRIVERS];
     struct { const char *file; int driver; } files[IRPX_FILES];

@@ -1,6 +1,11 @@
 /* levels.c: what isn't allowed at a raised interrupt level; levels that aren't put back. */
 #include "rules.h"
 
+static NTSTATUS PagedTakesLock(PEXTENSION Ext, PIRP Irp, BOOLEAN Wrong);
+static VOID PagedDeferred(PKDPC Dpc, PVOID Context, PVOID A, PVOID B);
+#pragma alloc_text(PAGE, PagedTakesLock)
+#pragma alloc_text(PAGE, PagedDeferred)
+
 /* A wait in a deferred call. With a limit of zero it takes no time, and is right. */
 static VOID Waits(PKDPC Dpc, PVOID Context, PVOID A, PVOID B)
 {
@@ -154,10 +159,60 @@ static NTSTATUS AsksAtDispatch(PEXTENSION Ext, PIRP Irp, BOOLEAN Wrong)
     return Done(Irp);
 }
 
+static VOID Locked(PEXTENSION Ext)
+{
+    KIRQL irql;
+    KeAcquireSpinLock(&Ext->Lock, &irql);
+    KeReleaseSpinLock(&Ext->Lock, irql);
+}
+
+/* Pageable code calls what takes a spin lock, and doesn't take it itself. */
+static NTSTATUS PagedTakesLock(PEXTENSION Ext, PIRP Irp, BOOLEAN Wrong)
+{
+    KIRQL irql;
+    Locked(Ext);
+    if (Wrong) {
+        KeAcquireSpinLock(&Ext->Lock, &irql);
+        KeReleaseSpinLock(&Ext->Lock, irql); /* told: PageableCode */
+    }
+    return Done(Irp);
+}
+
+static VOID PagedDeferred(PKDPC Dpc, PVOID Context, PVOID A, PVOID B)
+{
+    PEXTENSION ext = Context;
+    UNREFERENCED_PARAMETER(Dpc), UNREFERENCED_PARAMETER(A), UNREFERENCED_PARAMETER(B);
+    InterlockedIncrement(&ext->Step); /* told: PageableCode_Deferred */
+}
+
+/* The next two stand in a section by another pragma. */
+#pragma code_seg("PAGE")
+static NTSTATUS DefersPaged(PEXTENSION Ext, PIRP Irp, BOOLEAN Wrong)
+{
+    if (Wrong) {
+        KeInitializeDpc(&Ext->Dpc, PagedDeferred, Ext);
+        KeInsertQueueDpc(&Ext->Dpc, NULL, NULL);
+        KeFlushQueuedDpcs();
+    }
+    return Done(Irp);
+}
+
+static NTSTATUS RaisesInPaged(PEXTENSION Ext, PIRP Irp, BOOLEAN Wrong)
+{
+    KIRQL irql;
+    UNREFERENCED_PARAMETER(Ext);
+    KeRaiseIrql(Wrong ? DISPATCH_LEVEL : APC_LEVEL, &irql);
+    KeLowerIrql(irql); /* told: PageableCode_Segment */
+    return Done(Irp);
+}
+#pragma code_seg()
+
 const CASE_ROW LevelCases[] = {
     { "IrqlTooHigh", WaitsInDeferredCall, NULL, NULL }, { "UnderSpinLock_Delay", DelaysUnderLock, NULL, NULL },
     { "IrqlTooHigh_FastMutex", MutexAtDispatch, NULL, NULL }, { "IrqlTooHigh_PagedCode", PagedUnderLock, NULL, NULL },
     { "IrqlTooHigh_Routine", RoutineWaits, NULL, NULL }, { "IrqlTooHigh_Registry", RegistryAtDispatch, NULL, NULL },
     { "IrqlTooLow", AtDpcLevel, NULL, NULL }, { "IrqlReturn", StaysRaised, NULL, NULL },
-    { "RaiseLower", RaisesDown, NULL, NULL }, { "ForwardedAtBadIrql", AsksAtDispatch, NULL, NULL }, { NULL, NULL, NULL, NULL },
+    { "RaiseLower", RaisesDown, NULL, NULL }, { "ForwardedAtBadIrql", AsksAtDispatch, NULL, NULL },
+    { "PageableCode", PagedTakesLock, NULL, NULL }, { "PageableCode_Deferred", DefersPaged, NULL, NULL },
+    { "PageableCode_Segment", RaisesInPaged, NULL, NULL }, { NULL, NULL, NULL, NULL },
 };

@@ -150,6 +150,16 @@ static NTSTATUS QueuesFreedItem(PEXTENSION Ext, PIRP Irp, BOOLEAN Wrong)
     return Done(Irp);
 }
 
+static PIO_WORKITEM late_item;
+
+/* The item is queued once its device is gone. */
+static NTSTATUS KeepsItem(PEXTENSION Ext, PIRP Irp, BOOLEAN Wrong)
+{
+    if (Wrong && !late_item)
+        late_item = IoAllocateWorkItem(Ext->Self);
+    return Done(Irp);
+}
+
 /* These take their objects from the extension once the device is gone. */
 static NTSTATUS LocksLate(PEXTENSION Ext, PIRP Irp, BOOLEAN Wrong)
 {
@@ -168,6 +178,9 @@ static NTSTATUS SignalsLate(PEXTENSION Ext, PIRP Irp, BOOLEAN Wrong)
 
 VOID UsesAfterwards(PEXTENSION Ext)
 {
+    if (late_item)
+        IoQueueWorkItem(late_item, Works, DelayedWorkQueue, late_item); /* told: UsedInFreedMemory_ItemOfDevice */
+    late_item = NULL;
     if (Ext->Wrong && Ext->Step == LOCK)
         IoAcquireRemoveLock(&Ext->RemoveLock, Ext); /* told: UsedInFreedMemory_RemoveLock */
     if (Ext->Wrong && Ext->Step == EVENT)
@@ -248,15 +261,29 @@ static NTSTATUS RemovesTwice(PEXTENSION Ext, PIRP Irp, BOOLEAN Wrong)
     return Done(Irp);
 }
 
+/* Each control enables an interface of the bottom device, which the test deletes after the removal. */
+static NTSTATUS EnablesInterface(PEXTENSION Ext, PIRP Irp, BOOLEAN Wrong)
+{
+    static const GUID ours = { 0x2f0d9d4a, 0x6b3c, 0x4e51, { 0x9c, 0x11, 0x57, 0x0a, 0x4e, 0x62, 0x8d, 0x03 } };
+    UNICODE_STRING link;
+    if (!NT_SUCCESS(IoRegisterDeviceInterface(Ext->Lower, &ours, NULL, &link)))
+        return Done(Irp);
+    IoSetDeviceInterfaceState(&link, TRUE); /* told: InterfaceEnabled */
+    if (!Wrong)
+        IoSetDeviceInterfaceState(&link, FALSE);
+    RtlFreeUnicodeString(&link);
+    return Done(Irp);
+}
+
 const CASE_ROW ObjectCases[] = {
     { "MutexKept", KeepsMutex, NULL, NULL }, { "MutexKept_Thread", ThreadKeepsMutex, NULL, NULL },
     { "UsedInFreedMemory_Timer", SetsTimer, NULL, NULL }, { "UsedInFreedMemory_Lock", TakesLock, NULL, NULL },
     { "UsedInFreedMemory_Call", QueuesCall, NULL, NULL }, { "UsedInFreedMemory_Event", FreesEvent, NULL, NULL },
     { "UsedInFreedMemory_WorkItem", QueuesFreedItem, NULL, NULL },
-    { "UsedInFreedMemory_RemoveLock", LocksLate, NULL, NULL },
+    { "UsedInFreedMemory_RemoveLock", LocksLate, NULL, NULL }, { "UsedInFreedMemory_ItemOfDevice", KeepsItem, NULL, NULL },
     { "LockInFreedMemory_RemoveLock", FreesRemoveLock, NULL, NULL },
     { "UsedInFreedMemory_Extension", SignalsLate, NULL, NULL }, { "StartedEarly", NULL, StartsEarly, NULL },
     { "StartedEarly_Asks", AsksLater, AsksEarly, NULL }, { "ListCorrupt", RemovesTwice, NULL, NULL },
-    { "StillInitializing", NULL, NULL, NULL },
+    { "StillInitializing", NULL, NULL, NULL }, { "InterfaceEnabled", EnablesInterface, NULL, NULL },
     { NULL, NULL, NULL, NULL },
 };

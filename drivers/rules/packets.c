@@ -90,7 +90,60 @@ static NTSTATUS AsksForRemoval(PEXTENSION Ext, PIRP Irp, BOOLEAN Wrong)
     return Done(Irp);
 }
 
+/* The controls have four bytes of input, and room for sixteen. A structure may leave some bytes out. */
+static NTSTATUS AnswersInPart(PEXTENSION Ext, PIRP Irp, BOOLEAN Wrong)
+{
+    PUCHAR out = Irp->AssociatedIrp.SystemBuffer;
+    UNREFERENCED_PARAMETER(Ext);
+    RtlZeroMemory(out, Wrong ? 5 : 8);
+    out[15] = 1;
+    Irp->IoStatus.Status = STATUS_SUCCESS;
+    Irp->IoStatus.Information = 16;
+    IoCompleteRequest(Irp, IO_NO_INCREMENT); /* told: Unwritten */
+    return STATUS_SUCCESS;
+}
+
+/* A program's pointer. Of the controls that have a buffer of the system's there is none. */
+static NTSTATUS ReadsPointer(PEXTENSION Ext, PIRP Irp, BOOLEAN Wrong)
+{
+    volatile UCHAR *in = IoGetCurrentIrpStackLocation(Irp)->Parameters.DeviceIoControl.Type3InputBuffer;
+    if (in && !Wrong)
+        ProbeForRead((PVOID)in, 1, 1);
+    if (in)
+        Ext->Step = *in; /* told: Unprobed */
+    return Done(Irp);
+}
+
+/* What is probed may be paged out yet, unless its pages are locked. */
+static NTSTATUS ReadsUnderLock(PEXTENSION Ext, PIRP Irp, BOOLEAN Wrong)
+{
+    volatile UCHAR *in = IoGetCurrentIrpStackLocation(Irp)->Parameters.DeviceIoControl.Type3InputBuffer;
+    PMDL mdl = in ? IoAllocateMdl((PVOID)in, 16, FALSE, FALSE, NULL) : NULL;
+    KIRQL irql;
+    if (!mdl)
+        return Done(Irp);
+    ProbeForRead((PVOID)in, 16, 1);
+    if (!Wrong)
+        MmProbeAndLockPages(mdl, Irp->RequestorMode, IoReadAccess);
+    KeAcquireSpinLock(&Ext->Lock, &irql);
+    Ext->Step = *in; /* told: PagedAtDispatch_Program */
+    KeReleaseSpinLock(&Ext->Lock, irql);
+    if (!Wrong)
+        MmUnlockPages(mdl);
+    IoFreeMdl(mdl);
+    return Done(Irp);
+}
+
+static NTSTATUS SetsNone(PEXTENSION Ext, PIRP Irp, BOOLEAN Wrong)
+{
+    IoCopyCurrentIrpStackLocationToNext(Irp);
+    IoSetCompletionRoutine(Irp, NULL, NULL, Wrong, FALSE, FALSE); /* told: NullRoutine */
+    return IoCallDriver(Ext->Lower, Irp);
+}
+
 const CASE_ROW PacketCases[] = {
+    { "NullRoutine", SetsNone, NULL, NULL }, { "Unwritten", AnswersInPart, NULL, NULL }, { "Unprobed", ReadsPointer, NULL, NULL },
+    { "PagedAtDispatch_Program", ReadsUnderLock, NULL, NULL },
     { "TouchedAfterSend", TouchesLate, NULL, NULL }, { "InformationTooLong", SaysTooMuch, NULL, NULL },
     { "NotPassedDown", NULL, StartsAlone, NULL }, { "PnpStatusChanged", NULL, ChangesUnknown, NULL },
     { "PnpStatusChanged_Completed", NULL, FailsUnknown, NULL }, { "RemoveFailed", AsksForRemoval, FailsRemoval, NULL },

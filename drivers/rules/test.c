@@ -8,6 +8,20 @@ const char *RulesName(ULONG n);
 VOID RulesSetPnp(PEXTENSION Ext, ULONG n);
 extern BOOLEAN KeepsFlag;
 
+/* A control that a program sends, with four bytes of input. */
+static void send_as_program(PDEVICE_OBJECT top, ULONG code)
+{
+    IO_STATUS_BLOCK iosb;
+    KEVENT ended;
+    KeInitializeEvent(&ended, NotificationEvent, FALSE);
+    PIRP irp = WdmBuildIrp(top, IRP_MJ_DEVICE_CONTROL, 0, 16, &iosb, &ended);
+    irp->RequestorMode = UserMode;
+    IoGetNextIrpStackLocation(irp)->Parameters.DeviceIoControl.IoControlCode = code;
+    IoGetNextIrpStackLocation(irp)->Parameters.DeviceIoControl.InputBufferLength = 4;
+    IoCallDriver(top, irp);
+    KeWaitForSingleObject(&ended, Executive, KernelMode, FALSE, NULL);
+}
+
 static void run_case(ULONG n, BOOLEAN wrong)
 {
     PDRIVER_OBJECT driver = WdmLoadDriver("rules", DriverEntry);
@@ -22,6 +36,10 @@ static void run_case(ULONG n, BOOLEAN wrong)
     WdmSend(top, IRP_MJ_PNP, IRP_MN_QUERY_INTERFACE, 0);
     WdmControl(top, n << 2, 16);
     WdmControl(top, n << 2, 16);
+    if (!strcmp(RulesName(n), "Unprobed") || strstr(RulesName(n), "_Program"))
+        send_as_program(top, n << 2 | METHOD_NEITHER);
+    if (!strcmp(RulesName(n), "Unwritten"))
+        send_as_program(top, n << 2);
     WdmSend(top, IRP_MJ_POWER, IRP_MN_SET_POWER, 0);
     WdmSend(top, IRP_MJ_PNP, IRP_MN_REMOVE_DEVICE, 0);
     IoDeleteDevice(bottom);

@@ -55,8 +55,10 @@ int main(int argc, char **argv)
     PDRIVER_OBJECT lower = WdmLoadDriver("lower", lower_DriverEntry);
     PDRIVER_OBJECT middle = WdmLoadDriver("middle", middle_DriverEntry);
     if (!NT_SUCCESS(IoCreateDevice(lower, 0, NULL, FILE_DEVICE_UNKNOWN, 0, FALSE, &pdo)) ||
-        !NT_SUCCESS(IoCreateDevice(lower, 0, NULL, FILE_DEVICE_UNKNOWN, 0, FALSE, &MiddleElsewhere)) ||
-        !NT_SUCCESS(middle->DriverExtension->AddDevice(middle, pdo)) ||
+        !NT_SUCCESS(IoCreateDevice(lower, 0, NULL, FILE_DEVICE_UNKNOWN, 0, FALSE, &MiddleElsewhere)))
+        return WdmFinish();
+    pdo->Flags &= ~(ULONG)DO_DEVICE_INITIALIZING;
+    if (!NT_SUCCESS(middle->DriverExtension->AddDevice(middle, pdo)) ||
         !NT_SUCCESS(middle->DriverExtension->AddDevice(middle, pdo)))
         return WdmFinish();
     top = IoGetAttachedDevice(pdo);

@@ -85,6 +85,18 @@ static NTSTATUS WaitsForEver(PEXTENSION Ext, PIRP Irp)
     return Done(Irp, STATUS_SUCCESS);
 }
 
+/* Initializes the packet while the driver below has it. */
+static NTSTATUS InitializesInFlight(PEXTENSION Ext, PIRP Irp)
+{
+    const CCHAR locations = Irp->StackCount;
+    KEVENT event;
+    KeInitializeEvent(&event, NotificationEvent, FALSE);
+    ForwardWith(Ext, Irp, Signal, &event);
+    IoInitializeIrp(Irp, IoSizeOfIrp(locations), locations);
+    KeWaitForSingleObject(&event, Executive, KernelMode, FALSE, NULL);
+    return Done(Irp, Irp->IoStatus.Status);
+}
+
 static NTSTATUS MarkAndSignal(PDEVICE_OBJECT DeviceObject, PIRP Irp, PVOID Context)
 {
     if (Irp->PendingReturned)
@@ -107,5 +119,6 @@ const NAMED_SHAPE WrongShapes[] = {
     { "RoutineThenCopy", RoutineThenCopy }, { "OtherStatus", OtherStatus }, { "SkipThenComplete", SkipThenComplete },
     { "SetsAndReturns", SetsAndReturns }, { "SetsInRoutine", SetsInRoutine },
     { "MarksInRoutine", MarksInRoutine }, { "WaitsForEver", WaitsForEver }, { "MarksAndWaits", MarksAndWaits },
+    { "InitializesInFlight", InitializesInFlight },
     { NULL, NULL },
 };

@@ -63,6 +63,8 @@ static NTSTATUS ReadDone(PDEVICE_OBJECT DeviceObject, PIRP Irp, PVOID Context)
     UNREFERENCED_PARAMETER(DeviceObject);
     const NTSTATUS status = Irp->IoStatus.Status;
     const ULONG_PTR length = Irp->IoStatus.Information;
+    if (Irp->Flags & IRP_DEALLOCATE_BUFFER)
+        ExFreePool(Irp->AssociatedIrp.SystemBuffer); /* of IoBuildAsynchronousFsdRequest */
     IoFreeIrp(Irp);
     ExFreePoolWithTag(asked, 'rriM');
     Complete(read, status, length);

@@ -32,7 +32,10 @@ static NTSTATUS Write(PDEVICE_OBJECT DeviceObject, PIRP Irp)
         return Complete(Irp, STATUS_INSUFFICIENT_RESOURCES);
     *length = IoGetCurrentIrpStackLocation(Irp)->Parameters.Write.Length; /* told: STOPPED */
     ExFreePool(length);
-    return Complete(Irp, STATUS_SUCCESS);
+    volatile UCHAR *bytes = MmGetSystemAddressForMdlSafe(Irp->MdlAddress, NormalPagePriority);
+    if (IS_RIGHT && !bytes)
+        return Complete(Irp, STATUS_INSUFFICIENT_RESOURCES);
+    return Complete(Irp, bytes[0] ? STATUS_UNSUCCESSFUL : STATUS_SUCCESS); /* told: STOPPED */
 }
 static NTSTATUS Flushed(PDEVICE_OBJECT DeviceObject, PIRP Irp, PVOID Context)
 {
@@ -68,6 +71,7 @@ static NTSTATUS AddDevice(PDRIVER_OBJECT DriverObject, PDEVICE_OBJECT Pdo)
     if (!NT_SUCCESS(status))
         return status;
     lower = IoAttachDeviceToDeviceStack(device, Pdo);
+    device->Flags |= DO_DIRECT_IO;
     device->Flags &= ~(ULONG)DO_DEVICE_INITIALIZING;
     return STATUS_SUCCESS;
 }

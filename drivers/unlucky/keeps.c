@@ -60,15 +60,19 @@ static NTSTATUS Read(PDEVICE_OBJECT DeviceObject, PIRP Irp)
     return STATUS_PENDING;
 }
 
-/* The oldest read whose cancel routine doesn't run, or NULL. */
-static PIRP TakeRead(VOID)
+/* The oldest read, of this file or any, whose cancel routine doesn't run; or NULL. */
+static PIRP TakeRead(PFILE_OBJECT File)
 {
     PIRP read = NULL;
+    PLIST_ENTRY next;
     KIRQL irql;
     KeAcquireSpinLock(&lock, &irql);
-    while (!read && !IsListEmpty(&reads)) {
-        PLIST_ENTRY entry = RemoveHeadList(&reads);
+    for (PLIST_ENTRY entry = reads.Flink; !read && entry != &reads; entry = next) {
         PIRP irp = CONTAINING_RECORD(entry, IRP, Tail.Overlay.ListEntry);
+        next = entry->Flink;
+        if (File && IoGetCurrentIrpStackLocation(irp)->FileObject != File)
+            continue;
+        RemoveEntryList(entry);
         InitializeListHead(entry);
         if (IoSetCancelRoutine(irp, NULL) != NULL)
             read = irp;
@@ -79,7 +83,7 @@ static PIRP TakeRead(VOID)
 
 static NTSTATUS Write(PDEVICE_OBJECT DeviceObject, PIRP Irp)
 {
-    PIRP read = TakeRead();
+    PIRP read = TakeRead(NULL);
     UNREFERENCED_PARAMETER(DeviceObject);
     if (read)
         Complete(read, STATUS_SUCCESS);
@@ -141,9 +145,10 @@ static NTSTATUS Pass(PDEVICE_OBJECT DeviceObject, PIRP Irp)
     const PIO_STACK_LOCATION stack = IoGetCurrentIrpStackLocation(Irp);
     const BOOLEAN goes = stack->MajorFunction == IRP_MJ_PNP && stack->MinorFunction == IRP_MN_REMOVE_DEVICE;
     const BOOLEAN is_gone = stack->MajorFunction == IRP_MJ_PNP && stack->MinorFunction == IRP_MN_SURPRISE_REMOVAL;
+    const BOOLEAN is_closed = stack->MajorFunction == IRP_MJ_CLEANUP;
     PIRP read;
-    while ((goes || is_gone) && (read = TakeRead()) != NULL)
-        Complete(read, STATUS_DELETE_PENDING);
+    while ((goes || is_gone || is_closed) && (read = TakeRead(is_closed ? stack->FileObject : NULL)) != NULL)
+        Complete(read, is_closed ? STATUS_CANCELLED : STATUS_DELETE_PENDING);
     IoSkipCurrentIrpStackLocation(Irp);
     const NTSTATUS status = IoCallDriver(lower, Irp);
     if (goes) {

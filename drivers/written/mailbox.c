@@ -162,6 +162,33 @@ static NTSTATUS MailboxOther(PDEVICE_OBJECT DeviceObject, PIRP Irp)
     return CompleteRequest(Irp, STATUS_SUCCESS, 0);
 }
 
+/* The last handle of a file is closed: its reads end. */
+static NTSTATUS MailboxCleanup(PDEVICE_OBJECT DeviceObject, PIRP Irp)
+{
+    PDEVICE_EXTENSION extension = DeviceObject->DeviceExtension;
+    PFILE_OBJECT file = IoGetCurrentIrpStackLocation(Irp)->FileObject;
+    LIST_ENTRY ended;
+    PLIST_ENTRY entry, next;
+    KIRQL irql;
+    InitializeListHead(&ended);
+    KeAcquireSpinLock(&extension->QueueLock, &irql);
+    for (entry = extension->Queue.Flink; entry != &extension->Queue; entry = next) {
+        PIRP read = CONTAINING_RECORD(entry, IRP, Tail.Overlay.ListEntry);
+        next = entry->Flink;
+        if (IoGetCurrentIrpStackLocation(read)->FileObject == file && IoSetCancelRoutine(read, NULL) != NULL) {
+            RemoveEntryList(entry);
+            InsertTailList(&ended, entry);
+        }
+    }
+    KeReleaseSpinLock(&extension->QueueLock, irql);
+    while (!IsListEmpty(&ended)) {
+        PIRP read = CONTAINING_RECORD(RemoveHeadList(&ended), IRP, Tail.Overlay.ListEntry);
+        CompleteRequest(read, STATUS_CANCELLED, 0);
+        IoReleaseRemoveLock(&extension->RemoveLock, read);
+    }
+    return CompleteRequest(Irp, STATUS_SUCCESS, 0);
+}
+
 static NTSTATUS MailboxPassDown(PDEVICE_OBJECT DeviceObject, PIRP Irp)
 {
     PDEVICE_EXTENSION extension = DeviceObject->DeviceExtension;
@@ -287,7 +314,7 @@ NTSTATUS DriverEntry(PDRIVER_OBJECT DriverObject, PUNICODE_STRING RegistryPath)
 {
     DriverObject->MajorFunction[IRP_MJ_CREATE] = MailboxOther;
     DriverObject->MajorFunction[IRP_MJ_CLOSE] = MailboxOther;
-    DriverObject->MajorFunction[IRP_MJ_CLEANUP] = MailboxOther;
+    DriverObject->MajorFunction[IRP_MJ_CLEANUP] = MailboxCleanup;
     DriverObject->MajorFunction[IRP_MJ_FLUSH_BUFFERS] = MailboxOther;
     DriverObject->MajorFunction[IRP_MJ_READ] = MailboxRead;
     DriverObject->MajorFunction[IRP_MJ_WRITE] = MailboxWrite;

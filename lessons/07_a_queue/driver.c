@@ -71,6 +71,28 @@ static NTSTATUS Write(PDEVICE_OBJECT DeviceObject, PIRP Irp)
     return Complete(Irp, STATUS_SUCCESS, IoGetCurrentIrpStackLocation(Irp)->Parameters.Write.Length);
 }
 
+/* A handle is closed: its reads are cancelled. The routine ends those for which it has been called. */
+static NTSTATUS Cleanup(PDEVICE_OBJECT DeviceObject, PIRP Irp)
+{
+    PFILE_OBJECT file = IoGetCurrentIrpStackLocation(Irp)->FileObject;
+    LIST_ENTRY cancelled;
+    KIRQL irql;
+    UNREFERENCED_PARAMETER(DeviceObject);
+    InitializeListHead(&cancelled);
+    KeAcquireSpinLock(&Lock, &irql);
+    for (PLIST_ENTRY e = Reads.Flink, next = e->Flink; e != &Reads; e = next, next = e->Flink) {
+        PIRP irp = CONTAINING_RECORD(e, IRP, Tail.Overlay.ListEntry);
+        if (IoGetCurrentIrpStackLocation(irp)->FileObject != file || IoSetCancelRoutine(irp, NULL) == NULL)
+            continue;
+        RemoveEntryList(e);
+        InsertTailList(&cancelled, e);
+    }
+    KeReleaseSpinLock(&Lock, irql);
+    while (!IsListEmpty(&cancelled))
+        Complete(CONTAINING_RECORD(RemoveHeadList(&cancelled), IRP, Tail.Overlay.ListEntry), STATUS_CANCELLED, 0);
+    return Complete(Irp, STATUS_SUCCESS, 0);
+}
+
 static NTSTATUS Other(PDEVICE_OBJECT DeviceObject, PIRP Irp)
 {
     UNREFERENCED_PARAMETER(DeviceObject);
@@ -87,5 +109,6 @@ NTSTATUS DriverEntry(PDRIVER_OBJECT DriverObject, PUNICODE_STRING RegistryPath)
         DriverObject->MajorFunction[i] = Other;
     DriverObject->MajorFunction[IRP_MJ_READ] = Read;
     DriverObject->MajorFunction[IRP_MJ_WRITE] = Write;
+    DriverObject->MajorFunction[IRP_MJ_CLEANUP] = Cleanup;
     return IoCreateDevice(DriverObject, 0, NULL, FILE_DEVICE_UNKNOWN, 0, FALSE, &device);
 }

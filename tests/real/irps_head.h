@@ -6,6 +6,7 @@
 #include "ddk/wdm.h"
 #include "driver.h"
 #include "utils.h"
+#include "oks.h"
 
 struct file_context { DWORD id; ULONG namelen; WCHAR name[10]; };
 static DRIVER_OBJECT *driver_obj;

@@ -12,7 +12,8 @@ HOST_COMPILER = ["cc", "-std=c11", *HOST_FLAGS, "-I" + DRIVERS + "/host"]
 STRICT = ["-std=c11", "-Wall", "-Wextra", "-Werror"]
 HEADERS = "/usr/x86_64-w64-mingw32/include/ddk"
 RECORDER = sorted(f"{DRIVERS}/recorder/{name}" for name in os.listdir(DRIVERS + "/recorder") if name.endswith(".c"))
-OWN_TESTS = ("exercise.c", "requests.c", "overlaps.c", "named_tests.c")  # of the host: each has a `main`, or serves one
+# The tests of the host: each has a `main`, or serves one.
+OWN_TESTS = ("exercise.c", "holding.c", "restored.c", "requests.c", "overlaps.c", "named_tests.c")
 SCENARIOS = [HERE + "/scenarios.c", HERE + "/probe.c"]
 
 
@@ -62,8 +63,8 @@ def with_edits(objects, folder, edits):
     return list(made.values())
 
 
-def link(objects, program):
-    call(["cc", "-pthread", *objects, "-o", program])
+def link(objects, program, *flags):
+    call(["cc", "-pthread", *objects, *flags, "-o", program])
     return program
 
 
@@ -80,12 +81,36 @@ def threads_program(folder, host, recorder):
     return link(objects + host + recorder, folder + "/threads")
 
 
+def at_once_program(folder, host, recorder):
+    """Its own completion stands before the manager's, and is slow where a scenario wants that."""
+    objects = compile_all([HERE + "/at_once.c"], folder, ["cc", *STRICT, *HOST_FLAGS])
+    return link(objects + host + recorder, folder + "/at_once", "-Wl,--wrap=WdmIoCompleteRequest")
+
+
 def stack_program(name, folder, shared):
     """A stack of the host's with its own test; the device below it is compiled without the recorder."""
     objects = compile_all([f"{DRIVERS}/stacks/{name}.c"], folder,
                           ["cc", "-std=gnu11", "-Wno-multichar", *HOST_FLAGS, "-DWdmFinish=RecorderFinish", "-include",
                            "recorder.h"])
     return link(objects + shared, f"{folder}/{name}")
+
+
+def page_commands():
+    """Returns the commands that the recorder's page shows first."""
+    with open(DRIVERS + "/recorder/README.md", encoding="utf-8") as it:
+        block = it.read().split("```\n")[1]
+    return block.replace("\\\n", " ").splitlines()
+
+
+def by_the_page(folder):
+    """Builds test.exe by the page's first command as it stands there, of a driver and a test. Returns its path."""
+    os.makedirs(folder)
+    os.symlink(DRIVERS, folder + "/drivers")
+    for name, source in (("mydriver.c", "probe.c"), ("test.c", "scenarios.c"), ("probe.h", "probe.h"),
+                         ("ending.h", "ending.h")):
+        os.symlink(f"{HERE}/{source}", f"{folder}/{name}")
+    call(["sh", "-c", f"cd {folder} && {page_commands()[0]}"])
+    return folder + "/test.exe"
 
 
 def wine_program(compiler, folder, name, sources):

@@ -135,6 +135,7 @@ PDEVICE_OBJECT ProbeAddDevice(PDRIVER_OBJECT DriverObject, PDEVICE_OBJECT Pdo)
     PPROBE x = device->DeviceExtension;
     x->Lower = Pdo ? IoAttachDeviceToDeviceStack(device, Pdo) : NULL;
     x->OnSuccess = x->OnError = x->OnCancel = TRUE;
+    device->Flags &= ~DO_DEVICE_INITIALIZING;
     return device;
 }
 

@@ -100,6 +100,15 @@ static void send_held(int top)
 }
 
 static void finish(void) { stack(1); x[0]->Information = 5; send(0, 1); done(); }
+
+/* As a driver may do when it is unloaded: its table is empty at the end. */
+static void clears_table(void)
+{
+    finish();
+    for (int m = 0; m <= IRP_MJ_MAXIMUM_FUNCTION; m++)
+        d[0]->DriverObject->MajorFunction[m] = NULL;
+}
+
 static void finish_not_kept(void) { stack(1); x[0]->Information = 5; send(0, 0); send(0, 1); done(); }
 static void three(void) { stack_forwarding(3, WATCHES); x[0]->Information = 5; send(2, 1); done(); }
 static void three_error(void) { stack_forwarding(3, WATCHES); x[0]->Status = STATUS_UNSUCCESSFUL; send(2, 1); done(); }
@@ -253,7 +262,7 @@ static const struct { const char *name; void (*run)(void); } scenarios[] = {
     SCENARIO(pending_bit), SCENARIO(pending_bit_top), SCENARIO(held_below_skips), SCENARIO(cancel_finishes),
     SCENARIO(cancel_leaves), SCENARIO(cancel_none), SCENARIO(cancel_before), SCENARIO(twice_kept),
     SCENARIO(twice_ended), SCENARIO(twice_in_dispatch), SCENARIO(wait_for_lower), SCENARIO(wait_pended),
-    SCENARIO(own_packet), SCENARIO(built),
+    SCENARIO(own_packet), SCENARIO(built), SCENARIO(clears_table),
     SCENARIO(no_dispatch), SCENARIO(forgets_mark), SCENARIO(unmarked), SCENARIO(skip_routine), SCENARIO(bad_status),
     SCENARIO(delete_in_flight), SCENARIO(not_prepared), SCENARIO(too_short),
 };

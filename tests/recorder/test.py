@@ -1,4 +1,4 @@
-"""Tries the recorder on the host: the thirty scenarios, Wine's differences planted one by one, and threads.
+"""Tries the recorder on the host: the thirty scenarios, Wine's differences planted one by one, threads, and races.
 
 IRPX names the program that judges. It prints what was wrong, and `tried: COUNT WRONG KIND` for each kind."""
 
@@ -78,12 +78,15 @@ def try_scenarios(bench, scenarios, host, recorder):
 
 
 def try_page_command(bench, host):
-    """The command of the page: all files, those of the recorder too, are compiled with `-include recorder.h`."""
+    """As the page has it, all files, those of the recorder too, are compiled with `-include recorder.h`."""
     flags = ["cc", *building.STRICT, *building.HOST_FLAGS, "-include", "recorder.h"]
     objects = building.compile_all(building.SCENARIOS + building.RECORDER, bench.room + "/page", flags)
     program = building.link(objects + host, bench.room + "/page/scenarios")
     for name, wrong in run_scenarios(bench, program):
         bench.count("scenarios by the page's command", name, wrong)
+    if shutil.which("x86_64-w64-mingw32-gcc") and os.path.isdir(building.HEADERS):
+        program = building.by_the_page(bench.room + "/as_written")
+        bench.count("scenarios by the page's command", "as written", not os.path.exists(program) and "it makes no program")
 
 
 def try_planted(bench, scenarios, host, recorder):
@@ -124,6 +127,18 @@ def try_threads(bench, host, recorder):
         for (threads, seed), (verdict, status) in pool.map(one, runs):
             wrong = None if verdict.startswith("legal ") and not status else f"{verdict}, exit status {status}"
             bench.count("recorded runs with threads", f"{threads} threads, seed {seed}", wrong)
+
+
+def try_at_once(bench, host, recorder):
+    """Two cancels of one packet, and a delete while a packet is completed: each order is legal."""
+    program = building.at_once_program(bench.room + "/at_once", host, recorder)
+    named = subprocess.run([program], capture_output=True, text=True, check=True).stdout.split()
+    bench.count("recorded races", "all are expected", named != [row[0] for row in expected.AT_ONCE] and "they aren't")
+    for name, entries, _ in expected.AT_ONCE:
+        for seed in range(1, 11 if name.startswith("many") else 3):
+            verdict, status = bench.run([program, name], wanted=entries, WDM_SHAKE=str(seed))
+            wrong = None if verdict.startswith("legal ") and not status else f"{verdict}, exit status {status}"
+            bench.count("recorded races", f"{name}, seed {seed}", wrong)
 
 
 def try_stacks(bench, host, recorder):
@@ -207,6 +222,7 @@ def main():
             try_judge(bench)
             try_planted(bench, scenarios, host, recorder)
             try_threads(bench, host, recorder)
+            try_at_once(bench, host, recorder)
             try_stacks(bench, host, recorder)
             try_memory(bench, scenarios[1:], host)
             try_compilers(bench)

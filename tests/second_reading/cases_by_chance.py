@@ -11,7 +11,7 @@ from transcripts_by_chance import script_transcript, wild_transcript
 
 def base_script(rng, form, length=None):
     """Returns a sound script."""
-    if form == 3:
+    if form == 4:
         return with_conditions(rng, base_script(rng, 2, length))
     x = rng.random()
     if form == 2 and x < .35:
@@ -33,13 +33,13 @@ WEIGHTS = [('sound', 22), ('near', 26), ('broken', 6), ('workers', 6), ('alone',
 
 
 def make(kind, rng, form):
-    """Returns the words for the program and a text of this kind, in form 1, 2 or 3. A transcript is of form 1 or 2."""
+    """Returns the words for the program and a text of this kind, in form 1, 2 or 4. A transcript is of form 1 or 2."""
     wild = rng.random() < .3
     if kind in ('sound', 'near', 'broken', 'workers'):
         s = base_script(rng, form, None if kind == 'sound' else rng.choice([5, 10, 20]))
         words = ['run']
         if kind == 'near':
-            s = wrong_condition(rng, s) if form == 3 and rng.random() < .5 else near_script(rng, s)
+            s = wrong_condition(rng, s) if form == 4 and rng.random() < .5 else near_script(rng, s)
         if kind == 'workers':
             words = ['run', '--workers', str(rng.choice([2, 2, 3, 4, 64]))]
             x = rng.random()
@@ -69,7 +69,7 @@ def make(kind, rng, form):
             script(rng, min(form, 2), rng.choice([10, 25, 40]), seats)
         if kind == 'race':
             s['steps'] = [t for t in s['steps'] if t['do'] != 'hand' or t['seat'] % n == t['to'] % n]
-        if form == 3:
+        if form == 4:
             s = with_conditions(rng, s)
         return ['run', '--workers', str(n)], encode(text_of(s, rng, wild))
     form = min(form, 2)

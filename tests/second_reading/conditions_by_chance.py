@@ -1,4 +1,4 @@
-"""Scripts of form 3, made by chance: scripts of form 2 whose steps get conditions."""
+"""Scripts of form 4, made by chance: scripts of form 2 whose steps get conditions."""
 
 import copy
 
@@ -59,9 +59,9 @@ def condition_on(rng, steps, heard, seat):
 
 
 def with_conditions(rng, s, share=None):
-    """Returns this script of form 2 as one of form 3: a share of its steps has conditions, some of which hold."""
+    """Returns this script of form 2 as one of form 4: a share of its steps has conditions, some of which hold."""
     share = rng.choice([.1, .4, .4, .8]) if share is None else share
-    s = dict(copy.deepcopy(s), form=3)
+    s = dict(copy.deepcopy(s), form=4)
     runner = Runner(read_head(s))
     for step in s['setup']:
         runner.step(step)
@@ -93,7 +93,7 @@ def race_steps(rng, kind, seat, seats):
 
 
 def racing_script(rng):
-    """Returns a small script of form 3 whose seats race for a packet, a lock, a slot or a label."""
+    """Returns a small script of form 4 whose seats race for a packet, a lock, a slot or a label."""
     seats, major = rng.choice([2, 2, 3]), rng.choice([3, 4, 14])
     kinds = [rng.choice(['lock', 'slot', 'cancel', 'label']), 'slot' if major == 14 else 'cancel']
     keeps = [{'do': 'set_routine', 'by': 'o', 'irp': 'a', 'set': ['keeper', 0, 0, 'sec']}] * rng.choice([0, 1])

@@ -1,4 +1,4 @@
-"""Scripts of form 3 that were written by hand: each answer against each reply that a step can have, conditions on steps that
+"""Scripts of form 4 that were written by hand: each answer against each reply that a step can have, conditions on steps that
 weren't made, and conditions of a wrong form or in a wrong place."""
 
 from conditions_of_steps import PLAIN_ANSWERS
@@ -6,7 +6,7 @@ from json_texts import U32, U64
 from layouts import encode, plain
 
 DELETE_PENDING, CANCELLED = 3221225558, 3221225760
-HEAD = {'form': 3, 'seats': 2, 'locks': 2, 'slots': 6, 'completions': [], 'cancels': [['finish', 0], ['leave']],
+HEAD = {'form': 4, 'seats': 2, 'locks': 2, 'slots': 6, 'completions': [], 'cancels': [['finish', 0], ['leave']],
         'dispatches': [['hold', 0], ['hold', 1], ['hold_slot'], ['finish', 3221225473, 0]],
         'drivers': [[[3, 0], [4, 1], [14, 2], [27, 3]]]}
 ANSWERS = [*PLAIN_ANSWERS, *({'refused': name} for name in ('Ended', 'NotOwner', 'NoDriver', 'NoLock', 'NoIrp')),
@@ -117,7 +117,7 @@ def wrong_places():
         for steps in ([step('look', irp='a'), look], [look], [step('look', irp='a', **{'if': None})]):
             yield ['run'], encode(plain(dict(head, setup=[], steps=steps)))
     yield ['run'], encode(plain(dict(one, setup=[], steps=[])))
-    for change in ({'slots': 65}, {'slots': -1}, {'slots': None}, {'form': 4}, {'form': '3'}, {'form': 3.0}, {'if': 0}):
+    for change in ({'slots': 65}, {'slots': -1}, {'slots': None}, {'form': 3}, {'form': 5}, {'form': '4'}, {'form': 4.0}, {'if': 0}):
         yield run_of([step('look', irp='a')], **change)
 
 

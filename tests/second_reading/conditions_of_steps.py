@@ -1,4 +1,4 @@
-"""Conditions of steps: their form, when one holds, and which steps a seat makes (docs/FORMATS.md, Form 3)."""
+"""Conditions of steps: their form, when one holds, and which steps a seat makes (docs/FORMATS.md, Steps on conditions)."""
 
 from small_forms import REFUSALS, Shape, boolean, is_success, need, one_of, or_null, tuple_of, u32
 

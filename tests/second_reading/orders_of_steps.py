@@ -184,7 +184,7 @@ def manager_end(manager):
 def other_end(stepper):
     """Returns what else is left: labels, remove locks with who holds them, and cancel slots."""
     locks, slots = stepper.locks, stepper.slots
-    holders = [[(seat, tag) for seat, held in enumerate(locks.held) for lock, tag in held if lock == number]
+    holders = [[(seat, tag) for seat, held in enumerate(locks.held) for lock, tag in sorted(held) if lock == number]
                for number in range(len(locks.count))]
     labels = sorted((label, list(irp)) for label, irp in stepper.labels.items())
     return compact([labels, locks.count, locks.removed, holders, slots.flag, slots.content])

@@ -29,8 +29,8 @@ LOCK_STEPS = {
 }
 HAND = {'lock': u32, 'tag': u32, 'to': u32}
 FINISH_TAKEN = {'irp': pair, 'slot': u32, 'status': u32, 'information': u64}
-# The forms of scripts that are read. `compare` leaves out form 3 where the program refuses it.
-FORMS = [1, 2, 3]
+# The forms of scripts that are read. `compare` leaves out form 4 where the program refuses it.
+FORMS = [1, 2, 4]
 _LABEL = re.compile(r'[A-Za-z0-9_]{1,32}\Z', re.ASCII)
 
 
@@ -178,7 +178,7 @@ def read_script(text, workers=1):
             reads = dict(reads)
             reads['seat'] = u32
             reads['do'] = lambda x: x
-            if 'if' in v and s.form == 3 and not setup:
+            if 'if' in v and s.form == 4 and not setup:
                 reads['if'] = condition
             step = object_of(v, reads)
             need(step['seat'] < s.seats)

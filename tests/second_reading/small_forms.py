@@ -5,7 +5,7 @@ Each form is a function that takes a value and answers it, or raises Shape where
 
 from json_texts import U32, U64
 
-# The forms of transcripts. A script of form 3 leaves a transcript of form 2.
+# The forms of transcripts. A script of form 4 leaves a transcript of form 2.
 FORMS = (1, 2)
 
 

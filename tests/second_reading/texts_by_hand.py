@@ -67,7 +67,7 @@ def scripts(form):
                    {"slots": 64}, {"slots": 65}, {"slots": -1}, {"slots": "1"}, {"slots": None}, {"slots": 1.0},
                    {"slots": True},
                    {"slots": 65, "locks": 0}, {"slots": 65, "completions": 0}, {"seats": 0, "slots": 65},
-                   {"form": 1}, {"form": 2}, {"form": 3}, {"form": 0}, {"form": "2"}, {"form": 2.0}, {"form": True},
+                   {"form": 1}, {"form": 2}, {"form": 3}, {"form": 4}, {"form": 0}, {"form": "2"}, {"form": 2.0}, {"form": True},
                    {"x": 0},
                    {"completions": [["watch", "keep", "continue"]]}, {"dispatches": [["forward",
                        ["keeper", 0, 0, "s"]]]},

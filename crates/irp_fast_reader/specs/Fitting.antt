@@ -40,18 +40,27 @@ pub record Begins (text : List ℕ) (old new : Bytes) : Type 0 where
   pub short : 0 < length rest
   pub gone : Appends old new front
 
+-- the same, of a part of the text alone: nothing behind that part went out
+pub record BeginsWithin (part text : List ℕ) (old new : Bytes) : Type 0 where
+  pub begins : Begins text old new
+  pub left : List ℕ
+  pub within : part ≡ begins.front ++ left
+
 -- the count of failures rose exactly where the output failed
 abbrev pub Counts : {T : Type 0} → ℕ → ℕ → Result T Unwritten → Type 0
 Counts old new (Err unwritten.Output) = new ≡ risen old
 Counts old new other = new ≡ old
 
--- what a call that puts the line of a value did: the line went out, or this part doesn't fit, or a beginning went out
+-- what a call that puts the line of a value did: the line went out, or this part doesn't fit, or the output failed
+-- within a line that fits, or memory ran out and nothing went out
 abbrev pub PutsLine : {T : Type 0} → (T → Type 0) → (T → Data) → Unfit → T
     → Bytes → Bytes → Result (Unit {0}) Unwritten → Type 0
 PutsLine Holds json unfit value old new (Ok done) = LineFits Holds json value × Appends old new (line_text (json value))
 PutsLine Holds json unfit value old new (Err (unwritten.Unfit told)) =
     (told ≡ unfit) × (LineFits Holds json value → ⊥) × Keeps old new
-PutsLine Holds json unfit value old new (Err other) = Begins (line_text (json value)) old new
+PutsLine Holds json unfit value old new (Err unwritten.Output) =
+    LineFits Holds json value × Begins (line_text (json value)) old new
+PutsLine Holds json unfit value old new (Err unwritten.NoMemory) = Keeps old new
 
 -- the first of these that doesn't fit stands at this place
 pub record IsFirst {T : Type 0} (Good : T → Type 0) (place : ℕ) (values : List T) : Type 0 where
@@ -60,7 +69,7 @@ pub record IsFirst {T : Type 0} (Good : T → Type 0) (place : ℕ) (values : Li
   pub broken : All Good (take (place + 1) values) → ⊥
 
 -- what a call that puts the lines of values did: all went out, or those before the first that doesn't fit, or a
--- beginning
+-- beginning of the first lines, which fit
 abbrev pub PutsLines : {T : Type 0} → (T → Type 0) → (T → Data) → (ℕ → Unfit) → List T
     → Bytes → Bytes → Result (Unit {0}) Unwritten → Type 0
 PutsLines Holds json unfit values old new (Ok done) =
@@ -68,7 +77,9 @@ PutsLines Holds json unfit values old new (Ok done) =
 PutsLines Holds json unfit values old new (Err (unwritten.Unfit told)) =
     (place : ℕ) × (told ≡ unfit place) × IsFirst (LineFits Holds json) place values
     × Appends old new (text_of (map json (take place values)))
-PutsLines Holds json unfit values old new (Err other) = Begins (text_of (map json values)) old new
+PutsLines Holds json unfit values old new (Err other) =
+    (count : ℕ) × All (LineFits Holds json) (take count values)
+    × BeginsWithin (text_of (map json (take count values))) (text_of (map json values)) old new
 
 -- ---- a transcript
 
@@ -92,13 +103,19 @@ pub record StopsAt (transcript : TranscriptValue) (old new : Bytes) (told : Unfi
   pub gone : Appends old new (text_of (lines (front told transcript)))
   pub unfit : IfSome transcript.header (IsUnfitUnder told transcript)
 
+-- a beginning of the text went out, which isn't the whole text: of the lines before this part, and they fit
+pub record BeginsFitting (transcript : TranscriptValue) (old new : Bytes) : Type 0 where
+  pub part : Unfit
+  pub fits : Fits (front part transcript)
+  pub gone : BeginsWithin (text_of (lines (front part transcript))) (text_of (lines transcript)) old new
+
 -- the transcript's text is read as the transcript itself
 abbrev pub IsReadBack : TranscriptValue → Type 0
 IsReadBack transcript = ReadsFrom no_lines 0 (Ok transcript) (cut (text_of (lines transcript)))
 
 -- what a call that writes a transcript did: it fits, and all of it went out; or this part doesn't fit, and what stands
--- before it went out; or a beginning went out
+-- before it went out; or a beginning went out of lines that fit
 abbrev pub Writes : TranscriptValue → Bytes → Bytes → Result (Unit {0}) Unwritten → Type 0
 Writes transcript old new (Ok done) = Fits transcript × Appends old new (text_of (lines transcript))
 Writes transcript old new (Err (unwritten.Unfit told)) = StopsAt transcript old new told
-Writes transcript old new (Err other) = Begins (text_of (lines transcript)) old new
+Writes transcript old new (Err other) = BeginsFitting transcript old new

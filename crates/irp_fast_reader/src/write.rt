@@ -92,7 +92,7 @@ fn write_under<O: Out>(
 ///
 /// `Unfit` with the first part that doesn't fit: exactly the lines before it went out. `Output` where a put failed, and
 /// exactly then the output's count of failures rose; `NoMemory` where memory ran out. After either, a beginning of the
-/// text went out, and not the whole.
+/// lines that fit went out, and not the whole text.
 pub fn write_fitting<O: Out>(
     alloc: Global,
     out: &mut O,

@@ -2,3 +2,4 @@ pub mod Lists
 pub mod Texts
 pub mod Keys
 pub mod Quoting
+pub mod Acts

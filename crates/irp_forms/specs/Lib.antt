@@ -5,5 +5,6 @@ pub mod Values
 pub mod Questions
 pub mod Fields
 pub mod KeyParts
+pub mod Acts
 pub mod Steps
 pub mod Told

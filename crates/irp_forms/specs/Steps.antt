@@ -1,4 +1,4 @@
--- Acts by their words, with the names and the keys of each.
+-- Acts by their words, with the keys of each.
 use Rattle.std.specs.Prelude.{ℕ, codes, get_or, List, [], ◌∷◌, map, Option}
 use Rattle.std.specs.Borrow.{Bor}
 use Rattle.std.specs.List.{find, slice_get}
@@ -6,9 +6,6 @@ use Rattle.std.specs.Option.{option_map}
 use Rattle.std.proofs.Common.{bytes_eq}
 use Rattle.irp_forms.specs.declared.step_names.ActKind.{ActKind}
 use Rattle.irp_forms.specs.declared.step_names.ActKind.TheVariants as act
-use Rattle.irp_forms.specs.declared.step_names.StepPlace.{StepPlace}
-use Rattle.irp_forms.specs.declared.step_names.StepPlace.TheVariants as place
-use Rattle.irp_forms.specs.declared.step_names.TheConstants.{ACTS, KEYS}
 use Rattle.irp_forms.specs.declared.key_parts.Part.{Part}
 use Rattle.irp_forms.specs.declared.key_parts.Part.TheVariants as part
 use Rattle.irp_types.specs.Calls.{Call}
@@ -48,24 +45,6 @@ act_rows =
     ∷ (codes "request", act.Request)
     ∷ (codes "finish_taken", act.FinishTaken)
     ∷ []
-
--- as the table has them: the routine of Windows that each act stands for, its name in docs/RULES.md, and for a call its
--- checks and what it is answered
-unfoldable pub windows_names : List (List ℕ)
-windows_names = map (λ form. form.2.now) ACTS
-
-unfoldable pub rules_names : List (List ℕ)
-rules_names = map (λ form. form.3.now) ACTS
-
-unfoldable pub checks : List (List ℕ)
-checks = map (λ form. form.4.now) ACTS
-
-unfoldable pub answers : List (List ℕ)
-answers = map (λ form. form.5.now) ACTS
-
--- where a script may have each, as the table has it
-unfoldable pub step_places : List StepPlace
-step_places = map (λ row. row.0) KEYS
 
 -- a key of an act, and what stands under it
 abbrev pub ActKey : Type 0
@@ -158,26 +137,9 @@ act_place act.Withdraw = 23
 act_place act.Request = 24
 act_place act.FinishTaken = 25
 
--- the word of an act, and its name in Windows
+-- the word of an act, and its keys in a script
 unfoldable pub act_word : ActKind → List ℕ
 act_word one = get_or (map (λ row. row.0) act_rows) (act_place one) []
-
-unfoldable pub windows_name : ActKind → List ℕ
-windows_name one = get_or windows_names (act_place one) []
-
--- its name in docs/RULES.md, its checks there, and what it is answered
-unfoldable pub rules_name : ActKind → List ℕ
-rules_name one = get_or rules_names (act_place one) []
-
-unfoldable pub checks_of : ActKind → List ℕ
-checks_of one = get_or checks (act_place one) []
-
-unfoldable pub answer_of : ActKind → List ℕ
-answer_of one = get_or answers (act_place one) []
-
--- where a script may have it, and its keys there
-unfoldable pub place_of : ActKind → StepPlace
-place_of one = get_or step_places (act_place one) place.Anywhere
 
 unfoldable pub keys_of : ActKind → List ActKey
 keys_of one = get_or step_keys (act_place one) []

@@ -6,6 +6,7 @@ ghost use Rattle.std.specs.Prelude.{◌≡◌, ◌<◌, ◌≤◌, [], Some, get
 ghost use Rattle.std.specs.List.{list_all};
 ghost use Rattle.irp_forms.specs.Steps.{kind_of};
 ghost use Rattle.irp_forms.specs.Steps as spec;
+ghost use Rattle.irp_forms.specs.Acts as acts;
 
 use crate::key_parts::Part;
 use irp_types::Call;
@@ -168,7 +169,7 @@ pub enum StepPlace {
     Anywhere,
     /// Any of them, in `steps` alone: it is on a remove lock.
     Steps,
-    /// One of form 2 or 3, in `steps` alone.
+    /// One of form 2 or 4, in `steps` alone.
     FormTwo,
 }
 
@@ -195,23 +196,23 @@ type Keyed = (StepPlace, &'static [ActKey]);
 static KEYS: [Keyed; 26] = each_act!(of_keys);
 
 /// Every row. No other function names the table, since a check reads it whole at each that does.
-#[tactic(auto, unfolding(crate::specs::Steps::act_rows, crate::specs::Steps::windows_names, crate::specs::Steps::rules_names, crate::specs::Steps::checks, crate::specs::Steps::answers))]
+#[tactic(auto, unfolding(crate::specs::Steps::act_rows, crate::specs::Acts::every_act, crate::specs::Acts::windows_name, crate::specs::Acts::rules_name, crate::specs::Acts::checks_of, crate::specs::Acts::answer_of))]
 fn forms() -> &'static [Form]
     ensures rows { map (λ form. (form.1.now, form.0)) result.now ≡ spec.act_rows }
     ensures words { map (λ form. form.1.now) result.now ≡ map (λ row. row.0) spec.act_rows }
-    ensures windows { map (λ form. form.2.now) result.now ≡ spec.windows_names }
-    ensures rules { map (λ form. form.3.now) result.now ≡ spec.rules_names }
-    ensures checks { map (λ form. form.4.now) result.now ≡ spec.checks }
-    ensures answers { map (λ form. form.5.now) result.now ≡ spec.answers }
+    ensures windows { map (λ form. form.2.now) result.now ≡ map acts.windows_name acts.every_act }
+    ensures rules { map (λ form. form.3.now) result.now ≡ map acts.rules_name acts.every_act }
+    ensures checks { map (λ form. form.4.now) result.now ≡ map acts.checks_of acts.every_act }
+    ensures answers { map (λ form. form.5.now) result.now ≡ map acts.answer_of acts.every_act }
     ensures count { length result.now ≡ 26 }
 {
     &ACTS
 }
 
 /// The place and the keys in every row. No other function names that table.
-#[tactic(auto, unfolding(crate::specs::Steps::step_places, crate::specs::Steps::step_keys))]
+#[tactic(auto, unfolding(crate::specs::Acts::every_act, crate::specs::Acts::place_of, crate::specs::Steps::step_keys))]
 fn keyed() -> &'static [Keyed]
-    ensures places { map (λ row. row.0) result.now ≡ spec.step_places }
+    ensures places { map (λ row. row.0) result.now ≡ map acts.place_of acts.every_act }
     ensures keys { map (λ row. spec.keys_named row.1.now) result.now ≡ spec.step_keys }
     ensures few { list_all (λ row. nat_le (length row.1.now) 4) result.now ≡ true }
     ensures count { length result.now ≡ 26 }
@@ -289,42 +290,37 @@ impl ActKind {
 
     /// The routine of Windows that it stands for; where it stands for none its own word, of Look `look at`. SetNext
     /// stands for what a driver does with the location that IoGetNextIrpStackLocation gives.
-    #[tactic(auto, unfolding(crate::specs::Steps::windows_name))]
     pub fn windows_name(self) -> &'static str
-        ensures { result.now ≡ spec.windows_name self }
+        ensures { result.now ≡ acts.windows_name self }
     {
         row_at(forms(), self as usize).2
     }
 
     /// Its name in docs/RULES.md (this project's own).
-    #[tactic(auto, unfolding(crate::specs::Steps::rules_name))]
     pub fn rules_name(self) -> &'static str
-        ensures { result.now ≡ spec.rules_name self }
+        ensures { result.now ≡ acts.rules_name self }
     {
         row_at(forms(), self as usize).3
     }
 
     /// A call's checks in docs/RULES.md, in order: the names of refusals, with commas between them. Those of a party
     /// that it names come before. Of an act that is no call nothing.
-    #[tactic(auto, unfolding(crate::specs::Steps::checks_of))]
     pub fn checks(self) -> &'static str
-        ensures { result.now ≡ spec.checks_of self }
+        ensures { result.now ≡ acts.checks_of self }
     {
         row_at(forms(), self as usize).4
     }
 
     /// What a call is answered, in the words of docs/RULES.md. Of an act that is no call nothing.
-    #[tactic(auto, unfolding(crate::specs::Steps::answer_of))]
     pub fn answer(self) -> &'static str
-        ensures { result.now ≡ spec.answer_of self }
+        ensures { result.now ≡ acts.answer_of self }
     {
         row_at(forms(), self as usize).5
     }
 
     /// Which scripts may have it, and where.
-    #[tactic(auto, unfolding(crate::specs::Steps::place_of))]
     pub fn place(self) -> StepPlace
-        ensures { result ≡ spec.place_of self }
+        ensures { result ≡ acts.place_of self }
     {
         keyed_at(keyed(), self as usize).0
     }

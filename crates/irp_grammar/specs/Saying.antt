@@ -33,18 +33,18 @@ use Rattle.irp_grammar.specs.declared.law.Untold.TheVariants as untold
 abbrev pub have_conditions : List StepLine → Bool
 have_conditions lines = list_any (λ (line : StepLine). is_some line.condition) lines
 
--- the form's number: as the lines say; else 3 where a step hangs on anything, 2 where they have slots, and 1 where they
+-- the form's number: as the lines say; else 4 where a step hangs on anything, 2 where they have slots, and 1 where they
 -- have neither
 abbrev pub form_number : Option ℕ → Option ℕ → Bool → ℕ
 form_number (Some form) slots hangs = form
-form_number None slots true = 3
+form_number None slots true = 4
 form_number None (Some slots) false = 2
 form_number None None false = 1
 
 -- the form of this number, with so many slots where it has these
 abbrev pub form_numbered : ℕ → ℕ → ScriptForm
 form_numbered number slots =
-    if number == 3 then forms.Three slots else (if number == 2 then forms.Two slots else forms.One)
+    if number == 4 then forms.Four slots else (if number == 2 then forms.Two slots else forms.One)
 
 -- the form, with its slots where it has these: none where the lines say nothing of them
 abbrev pub form_of : Option ℕ → Option ℕ → Bool → ScriptForm

@@ -43,7 +43,7 @@ fn form_in(text: &str) -> Option<u32> {
     match text {
         "1" => Some(1),
         "2" => Some(2),
-        "3" => Some(3),
+        "4" => Some(4),
         _ => None,
     }
 }

@@ -76,7 +76,7 @@ impl<'a> Said<'a> {
         self.steps.iter().any(|line| line.condition.is_some())
     }
 
-    /// The form: as the text says; else 3 where a step hangs on anything, 2 where it has slots, and 1 where it has
+    /// The form: as the text says; else 4 where a step hangs on anything, 2 where it has slots, and 1 where it has
     /// neither.
     pub fn form_number(&self) -> u32
         ensures { result ≡ form_number self.now.form self.now.slots
@@ -84,7 +84,7 @@ impl<'a> Said<'a> {
     {
         match (self.form, self.slots) {
             (Some(form), _) => form,
-            (None, _) if self.have_conditions() => 3,
+            (None, _) if self.have_conditions() => 4,
             (None, Some(_)) => 2,
             (None, None) => 1,
         }
@@ -216,8 +216,8 @@ impl<'a> Said<'a> {
             return Some(StepFault::Setup);
         }
         if let Some(condition) = line.condition {
-            if self.form_number() != 3 {
-                return Some(StepFault::FormThree);
+            if self.form_number() != 4 {
+                return Some(StepFault::FormFour);
             }
             if !self.names_earlier(index, line.seat, condition) {
                 return Some(StepFault::Condition);

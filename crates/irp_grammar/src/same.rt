@@ -101,7 +101,7 @@ fn form_said(said: &Said<'_>) -> ScriptForm
 {
     let slots = said.slots.unwrap_or(0);
     match said.form_number() {
-        3 => ScriptForm::Three { slots },
+        4 => ScriptForm::Four { slots },
         2 => ScriptForm::Two { slots },
         _ => ScriptForm::One,
     }

@@ -339,7 +339,7 @@ fn put_top(text: &mut Sink, parts: &ScriptParts) {
     match parts.form {
         ScriptForm::One => text.put("form 1"),
         ScriptForm::Two { slots } => put_numbered(text, "form 2\nslots ", u64::from(slots)),
-        ScriptForm::Three { slots } => put_numbered(text, "form 3\nslots ", u64::from(slots)),
+        ScriptForm::Four { slots } => put_numbered(text, "form 4\nslots ", u64::from(slots)),
     }
     put_numbered(text, "\nseats ", u64::from(parts.seats));
     put_numbered(text, "\nlocks ", u64::from(parts.locks));
@@ -365,7 +365,7 @@ fn put_script(text: &mut Sink, parts: &ScriptParts) {
     put_steps(text, "\nsetup\n", parts.setup.as_slice(), &[], around);
     let steps = parts.steps.as_slice();
     let hanging = match parts.form {
-        ScriptForm::Three { .. } => steps,
+        ScriptForm::Four { .. } => steps,
         _ => &[],
     };
     put_steps(text, "\nsteps\n", steps, hanging, around);

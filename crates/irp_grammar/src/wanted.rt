@@ -68,7 +68,7 @@ pub enum StepFault {
     /// Form 1 doesn't have it.
     Form,
     /// It hangs on anything, and the form isn't 3.
-    FormThree,
+    FormFour,
     /// It hangs on a step that isn't above, or isn't its seat's.
     Condition,
     /// It hands a reference to its own seat, or to one that isn't there.
@@ -86,8 +86,8 @@ fn step_reason(fault: StepFault) -> &'static str
         StepFault::Setup => {
             "a step that setup may have: none on a remove lock or a cancel slot, and none with `if`"
         }
-        StepFault::Form => "form 2 or 3, which have this step",
-        StepFault::FormThree => "form 3, which alone has steps with `if`",
+        StepFault::Form => "form 2 or 4, which have this step",
+        StepFault::FormFour => "form 4, which alone has steps with `if`",
         StepFault::Condition => "an `if` with a step above, of the same seat",
         StepFault::Hand => "a hand to another seat that is there",
         StepFault::Slot =>
@@ -164,8 +164,8 @@ impl Wanted {
                 "form, seats, locks, slots, completions, cancels, dispatches, drivers, setup or steps"
             }
             Wanted::Once => "a heading that no line above has",
-            Wanted::Form => "1, 2 or 3",
-            Wanted::FormTwo => "form 2 or 3, which have slots",
+            Wanted::Form => "1, 2 or 4",
+            Wanted::FormTwo => "form 2 or 4, which have slots",
             Wanted::Count => "a number, or names",
             Wanted::Rule => "a rule: watch, change, keeper, keep_on_error or free",
             Wanted::Flags => "flags: some of s, e and c in this order, or -",

@@ -2,12 +2,13 @@
 use Rattle.std.specs.Prelude.{ℕ, ◌≡◌, ◌⊎◌, List, [], ◌∷◌, ◌++◌, codes, Bool, true, false, Option}
 use Rattle.std.specs.List.{flat_map}
 use Rattle.irp_types.specs.declared.entry.Entry.{Entry}
-use Rattle.irp_listing.specs.Blocks.{IsBlock}
+use Rattle.irp_listing.specs.Blocks.{IsBlock, block_after}
 use Rattle.irp_listing.specs.Choosing.{IsChosen}
 use Rattle.irp_listing.specs.Lines.{further_of}
 use Rattle.irp_listing.specs.WordLines.{word_line_text}
 use Rattle.irp_transcript.specs.declared.word_line.WordLine.{WordLine}
 use Rattle.irp_types.specs.declared.names.IrpRef.{IrpRef}
+use Rattle.irp_listing.specs.declared.choosing.Choice.{Choice}
 
 -- this text stands for an entry: its block where it is chosen, and else nothing
 abbrev pub StandsFor : Option IrpRef → Entry → List ℕ → Type 0
@@ -25,6 +26,12 @@ pub record AddsChosen (only : Option IrpRef) (entry : Entry) (before after : Lis
   pub text : List ℕ
   pub stands : StandsFor only entry text
   pub put : after ≡ before ++ text
+
+-- the block of the last of the entries so far was put behind what stood there, where it is chosen, and else nothing
+abbrev pub PutsLast : Choice → List Entry → Entry → List ℕ → List ℕ → Type 0
+PutsLast choice so_far entry before after =
+    (IsChosen choice.only entry × (after ≡ before ++ block_after choice.tells_seats so_far entry))
+    ⊎ ((IsChosen choice.only entry → ⊥) × (after ≡ before))
 
 -- the heading above word lines
 abbrev pub words_heading : List ℕ

@@ -2,8 +2,9 @@
 
 ghost use Rattle.std.specs.Prelude.{◌≡◌, ◌++◌, codes, string_bytes, IfSome, OnOk, Some};
 ghost use Rattle.std.specs.List.{flat_map, repeat};
-ghost use Rattle.irp_listing.specs.Blocks.{AddsBlock, indented, outcome_line, question_lines};
+ghost use Rattle.irp_listing.specs.Blocks.{block_of, indented, outcome_line, question_lines};
 ghost use Rattle.irp_listing.specs.Heads.{answer_text, caller_text, head_text, refused_text, seat_text};
+ghost use Rattle.irp_listing.specs.Stacks.{held};
 
 use crate::lines::{put_further, put_head};
 use crate::outcome::{OutcomeWords, moves, outcome_of, sends};
@@ -180,7 +181,7 @@ fn put_question(
     question: Asked,
 ) -> Result<(), AllocError>
     ensures { OnOk result
-        (out.new.items ≡ out.old.items ++ question_lines stacks.now.above question) }
+        (out.new.items ≡ out.old.items ++ question_lines (held stacks.now.above) question) }
 {
     let depth = stacks.depth_of(question.shown().device);
     put_shown(out, words, depth, QuestionWords(question))?;
@@ -195,7 +196,7 @@ fn put_questions(
     questions: &[Asked],
 ) -> Result<(), AllocError>
     ensures { OnOk result (out.new.items
-        ≡ out.old.items ++ flat_map (question_lines stacks.now.above) questions.now) }
+        ≡ out.old.items ++ flat_map (question_lines (held stacks.now.above)) questions.now) }
 {
     for question in questions {
         put_question(out, words, stacks, *question)?;
@@ -228,7 +229,8 @@ pub(crate) fn put_block(
     tells_seat: bool,
     entry: &Entry,
 ) -> Result<(), AllocError>
-    ensures { OnOk result (AddsBlock entry.now out.old.items out.new.items) }
+    ensures { OnOk result (out.new.items ≡ out.old.items
+        ++ block_of tells_seat (held stacks.now.lost) (held stacks.now.above) entry.now) }
 {
     words.clear();
     let head = HeadWords {

@@ -13,7 +13,6 @@ mod word_lines;
 
 pub use blocks::CallerWords;
 pub use choosing::{Choice, is_chosen};
-pub use leaving::taken_out;
 pub use lines::{put_line, put_row};
 pub use listing::{put_chosen, put_word_line};
 pub use outcome::{EndWords, Outcome, moves, outcome_of};

@@ -1,7 +1,9 @@
 //! The text of a history: a block for each entry that is chosen, and a line for each word line.
 
-ghost use Rattle.std.specs.Prelude.{◌≡◌, ◌++◌, OnOk};
-ghost use Rattle.irp_listing.specs.Listing.{AddsChosen, AddsWordLine, heading_above};
+ghost use Rattle.std.specs.Prelude.{◌≡◌, ◌++◌, List, OnOk};
+ghost use Rattle.irp_types.specs.declared.entry.Entry.{Entry};
+ghost use Rattle.irp_listing.specs.Listing.{AddsChosen, AddsWordLine, PutsLast, heading_above};
+ghost use Rattle.irp_listing.specs.Stacks.{IsAfter};
 
 use crate::blocks::put_block;
 use crate::choosing::{Choice, is_chosen};
@@ -21,7 +23,10 @@ pub fn put_chosen(
     choice: Choice,
     entry: &Entry,
 ) -> Result<(), AllocError>
-    ensures { OnOk result (AddsChosen choice.only entry.now pending.old.items pending.new.items) }
+    ensures adds { OnOk result (AddsChosen choice.only entry.now
+        pending.old.items pending.new.items) }
+    ensures exact { (so_far : List Entry) → IsAfter so_far stacks.now
+        → OnOk result (PutsLast choice so_far entry.now pending.old.items pending.new.items) }
 {
     if !is_chosen(choice, entry) {
         return Ok(());

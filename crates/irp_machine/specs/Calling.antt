@@ -23,7 +23,7 @@ use Rattle.irp_machine.specs.Standings.{ManagerValue}
 abbrev pub slot_next : ManagerValue → ℕ
 slot_next manager = next_slot manager.freed (fin.len manager.state.live)
 
--- a call is to get a slot that has a packet, which no script comes to
+-- a call is to get a slot that has a packet. No theorem says that no script comes to that: tests have met none that does
 abbrev pub is_taken : StateValue → ℕ → Call → Bool
 is_taken state slot (Allocate size) = is_some (live_at state slot)
 is_taken state slot call = false

@@ -1,7 +1,7 @@
 -- How a script has ended.
-use Rattle.std.specs.Prelude.{ℕ, zero, suc, ◌+◌, ◌==◌, if◌then◌else◌, slice_get, List, [], ◌∷◌, ◌++◌, map, length, slice_index_or, Option}
-use Rattle.std.specs.List.{fold}
-use Rattle.std.specs.Option.{option_map}
+use Rattle.std.specs.Prelude.{ℕ, zero, suc, ◌+◌, ◌==◌, nat_lt, if◌then◌else◌, slice_get, List, [], ◌∷◌, ◌++◌, map, length, slice_index_or, Bool, Option}
+use Rattle.std.specs.List.{fold, insert, position}
+use Rattle.std.specs.Option.{option_map, unwrap_or}
 use Rattle.irp_types.specs.Packet.{PacketValue, found_location, size_of}
 use Rattle.irp_types.specs.Stacks.{DeviceFacts, DevicesValue, lower_of}
 use Rattle.irp_types.specs.Refusals.{has_ended}
@@ -82,14 +82,24 @@ devices_below devices (suc device) = with_more (device_end devices device) (devi
 
 -- ---- remove locks and cancel slots
 
--- a seat's references to a lock
-abbrev pub holds_of : ℕ → ℕ → List Held → List Holder
-holds_of seat lock [] = []
-holds_of seat lock (held ∷ rest) =
-    if held.lock == lock then record { seat = seat; tag = held.tag } ∷ holds_of seat lock rest
-    else holds_of seat lock rest
+-- a holder has a higher tag than this
+abbrev pub is_above : ℕ → Holder → Bool
+is_above tag holder = nat_lt tag holder.tag
 
--- the references of the seats below this one to a lock
+-- the first place at which a holder of a higher tag stands, or else the end
+abbrev pub place_of : ℕ → List Holder → ℕ
+place_of tag own = unwrap_or (position (is_above tag) own) (length own)
+
+-- with one more reference, if it is to this lock, in front of those of higher tags
+abbrev pub with_hold : ℕ → ℕ → List Holder → Held → List Holder
+with_hold seat lock own held =
+    if held.lock == lock then insert own (place_of held.tag own) (record { seat = seat; tag = held.tag }) else own
+
+-- a seat's references to a lock, by rising tag: in which order it came by them isn't told
+abbrev pub holds_of : ℕ → ℕ → List Held → List Holder
+holds_of seat lock held = fold (with_hold seat lock) [] held
+
+-- the references of the seats below this one to a lock, by rising seat and then by rising tag
 abbrev pub holders_below : List SeatValue → ℕ → ℕ → List Holder
 holders_below seats lock zero = []
 holders_below seats lock (suc seat) =
@@ -110,9 +120,9 @@ replies_of seat = record { told = seat.told }
 
 -- ---- the end
 
--- what is told of the end of a script that stands so. A new packet gets a slot that was freed or the first that never
--- had one, so each live packet's slot is below the number of the next use. Which slots were freed in which order isn't
--- told, nor the number of the next use
+-- what is told of the end of a script that stands so: of the packets, those whose slot is below the number of the next
+-- use. No theorem says that each live packet's is: a new packet gets a slot that was freed or the first that never had
+-- one, and tests have met no other. Which slots were freed in which order isn't told, nor the number of the next use
 abbrev pub end_of : StandingValue → End
 end_of standing = record {
   replies = map replies_of standing.seats;

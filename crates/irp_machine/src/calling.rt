@@ -55,8 +55,8 @@ fn is_taken(manager: &ManagerState<PlainKeep>, slot: usize, call: Call) -> bool
 ///
 /// # Errors
 ///
-/// `AllocError` where memory runs out. It would also be the answer where a new packet were to get a slot that is live, but
-/// no script comes to that.
+/// `AllocError` where memory runs out. It would also be the answer where a new packet were to get a slot that is live. No
+/// theorem says that no script comes to that: tests have met none that does.
 pub fn call<N: DrainNote>(
     asker: &ScriptAsker,
     manager: &mut ManagerState<PlainKeep>,

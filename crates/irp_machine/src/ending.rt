@@ -1,6 +1,6 @@
 //! How a script has ended.
 
-ghost use Rattle.std.specs.Prelude.{◌≡◌, ◌≤◌, ◌++◌, IfOk, OnOk, length, map};
+ghost use Rattle.std.specs.Prelude.{◌≡◌, ◌<◌, ◌≤◌, IfOk, IfSome, OnOk, length, map, position};
 ghost use Rattle.irp_manager.specs.ManagerStates.{state_of};
 ghost use Rattle.irp_manager.specs.Slots.{live_of};
 ghost use Rattle.irp_types.specs.Standing.{lowest_location};
@@ -136,33 +136,67 @@ fn devices_of(alloc: Global, stacks: &Stacks) -> Result<Vec<DeviceEnd>, AllocErr
     Ok(devices)
 }
 
-/// Appends a seat's references to a lock.
-fn add_holds(
-    holders: &mut Vec<Holder>,
-    held: &[Held],
-    seat: usize,
-    lock: usize,
-) -> Result<(), AllocError>
-    ensures { OnOk result (holders.new.items
-        ≡ holders.old.items ++ spec.holds_of seat lock held.now) }
+/// The first place at which a holder of a higher tag stands.
+fn first_above(own: &[Holder], tag: u32) -> Option<usize>
+    ensures first { result ≡ position (spec.is_above tag) own.now }
+    ensures within { IfSome result (λ place. place < length own.now) }
 {
-    for one in held {
-        if one.lock as usize == lock {
-            let tag = one.tag;
-            holders.push(Holder { seat, tag })?;
-        }
+    own.iter().position(|other| tag < other.tag)
+}
+
+/// The first place at which a holder of a higher tag stands, or else the end.
+fn place_of(own: &[Holder], tag: u32) -> usize
+    ensures place { result ≡ spec.place_of tag own.now }
+    ensures within { result ≤ length own.now }
+{
+    match first_above(own, tag) {
+        Some(place) => place,
+        None => own.len(),
+    }
+}
+
+/// Puts a seat's reference among its others, if it is to this lock.
+fn put_hold(own: &mut Vec<Holder>, held: Held, seat: usize, lock: usize) -> Result<(), AllocError>
+    ensures { OnOk result (own.new.items ≡ spec.with_hold seat lock own.old.items held) }
+{
+    if held.lock as usize == lock {
+        let place = place_of(own.as_slice(), held.tag);
+        own.insert(
+            place,
+            Holder {
+                seat,
+                tag: held.tag,
+            },
+        )?;
     }
     Ok(())
 }
 
-/// The references to a lock, by rising seat.
+/// A seat's references to a lock, by rising tag.
+fn holds_of(
+    alloc: Global,
+    held: &[Held],
+    seat: usize,
+    lock: usize,
+) -> Result<Vec<Holder>, AllocError>
+    ensures { IfOk result (λ own. own.items ≡ spec.holds_of seat lock held.now) }
+{
+    let mut own = Vec::new(alloc);
+    for one in held {
+        put_hold(&mut own, *one, seat, lock)?;
+    }
+    Ok(own)
+}
+
+/// The references to a lock, by rising seat and then by rising tag.
 fn holders_of(alloc: Global, seats: &[SeatState], lock: usize) -> Result<Vec<Holder>, AllocError>
     ensures { IfOk result (λ holders.
         holders.items ≡ spec.holders_below seats.now lock (length seats.now)) }
 {
     let mut holders = Vec::new(alloc);
     for seat in 0..seats.len() {
-        add_holds(&mut holders, seats[seat].held(), seat, lock)?;
+        let mut own = holds_of(alloc, seats[seat].held(), seat, lock)?;
+        holders.append(&mut own)?;
     }
     Ok(holders)
 }
@@ -205,7 +239,8 @@ fn replies_of(alloc: Global, seats: &[SeatState]) -> Result<Vec<Replies>, AllocE
     Ok(replies)
 }
 
-/// What is told of the end of a script that stands so. A packet's slot is below the number of the next use.
+/// What is told of the end of a script that stands so: of the packets, those whose slot is below the number of the next
+/// use. No theorem says that each live packet's is; tests have met no other.
 pub fn end_of(alloc: Global, standing: &Standing) -> Result<End, AllocError>
     ensures { IfOk result (λ end. end ≡ spec.end_of standing.now) }
 {

@@ -246,8 +246,9 @@ fn word_act(act: StepAct) -> Option<Act>
     }
 }
 
-/// The word line of what a seat was told, where a lock or a slot told it.
-fn line_of(steps: &[Step], seat: u32, told: Told) -> Option<WordLine>
+/// The word line of what a seat was told, where a lock or a slot told it. None of what the manager told, and where the
+/// step isn't one of these, or is no act on a lock or a slot (this project's own format, docs/FORMATS.md).
+pub fn line_of(steps: &[Step], seat: u32, told: Told) -> Option<WordLine>
     ensures { result ≡ spec.line_of steps.now seat told }
 {
     let Answered::Word(reply) = told.answer else {

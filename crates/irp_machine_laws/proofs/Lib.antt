@@ -20,3 +20,4 @@ pub mod SlotLaw
 pub mod SlotOpening
 pub mod LockReach
 pub mod SlotReach
+pub mod Conditions

@@ -6,3 +6,4 @@ pub mod LockLaws
 pub mod SlotTables
 pub mod SlotSteps
 pub mod SlotLaws
+pub mod ConditionLaws

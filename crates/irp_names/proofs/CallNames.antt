@@ -2,11 +2,12 @@
 use Rattle.std.proofs.Common.{◌≡◌, refl}
 use Rattle.irp_types.specs.Calls.{Call}
 use Rattle.irp_types.specs.declared.call.Call.TheVariants as call
-use Rattle.irp_forms.specs.Steps.{kind_of, windows_name, windows_names}
+use Rattle.irp_forms.specs.Acts.{windows_name}
+use Rattle.irp_forms.specs.Steps.{kind_of}
 use Rattle.irp_names.specs.Calls.{call_name}
 
 pub call_named : (one : Call) → windows_name (kind_of one) ≡ call_name one
-unfolding windows_name windows_names
+unfolding windows_name
 call_named (call.CreateDevice driver lock) = refl
 call_named (call.Attach device to) = refl
 call_named (call.Detach lower) = refl

@@ -1,23 +1,38 @@
 -- The kinds of plans, by their names.
-use Rattle.std.specs.Prelude.{ℕ, get_or, List, [], map, Option}
+use Rattle.std.specs.Prelude.{ℕ, codes, get_or, List, [], ◌∷◌, map, Option}
 use Rattle.std.specs.List.{find, slice_get}
 use Rattle.std.specs.Option.{option_map}
 use Rattle.std.proofs.Common.{bytes_eq}
 use Rattle.irp_forms.specs.declared.key_parts.Part.{Part}
+use Rattle.irp_forms.specs.declared.key_parts.Part.TheVariants as part
 use Rattle.irp_names.specs.declared.plan_kinds.PlanKind.{PlanKind}
 use Rattle.irp_names.specs.declared.plan_kinds.PlanKind.TheVariants as kind
-use Rattle.irp_names.specs.declared.plan_kinds.TheConstants.{PLANS}
 
 -- what the first row with this name has
 abbrev pub under : List ℕ → List (List ℕ × PlanKind) → Option PlanKind
 under word rows = option_map (λ row. row.1) (find (λ row. bytes_eq word row.0) rows)
 
--- each kind under its name; then what follows each name
+-- each kind under its name
 unfoldable pub plan_rows : List (List ℕ × PlanKind)
-plan_rows = map (λ form. (form.1.now, form.0)) PLANS
+plan_rows =
+    (codes "finish", kind.Finish)
+    ∷ (codes "hold", kind.Hold)
+    ∷ (codes "hold_slot", kind.HoldSlot)
+    ∷ (codes "skip", kind.Skip)
+    ∷ (codes "forward", kind.Forward)
+    ∷ (codes "forward_pend", kind.ForwardPend)
+    ∷ []
 
+-- what follows each name, in the order of the kinds
 unfoldable pub plan_parts : List (List Part)
-plan_parts = map (λ form. form.2.now) PLANS
+plan_parts =
+    (part.Status ∷ part.Information ∷ [])
+    ∷ (part.CancelOrEnd ∷ [])
+    ∷ []
+    ∷ []
+    ∷ (part.SettingOrEnd ∷ [])
+    ∷ (part.SettingOrEnd ∷ [])
+    ∷ []
 
 -- the place of a kind's row
 abbrev pub plan_place : PlanKind → ℕ

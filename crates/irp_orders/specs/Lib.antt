@@ -5,6 +5,7 @@ pub mod Exploring
 pub mod Facts
 pub mod Founds
 pub mod Judging
+pub mod Lines
 pub mod Program
 pub mod Right
 pub mod Rows

@@ -2,6 +2,7 @@
 use Rattle.std.specs.Prelude.{ℕ, ◌≡◌, ◌+◌, ◌-◌, ◌^◌, ◌<◌, ◌==◌, ◌⊎◌, ◌++◌, min, set, if◌then◌else◌, List, [], ◌∷◌, length, slice_get, Some, Bool, true, false, All}
 use Rattle.std.specs.List.Sorted.{IsPermutation}
 use Rattle.irp_machine.specs.Orders.{AreOutcomesOf}
+use Rattle.irp_machine.specs.Replays.{StopsShort}
 use Rattle.irp_script_reader.specs.declared.act.Step.{Step}
 use Rattle.irp_script_reader.specs.declared.script.ScriptParts.{ScriptParts}
 use Rattle.irp_orders.specs.Alike.{AreAlike}
@@ -85,6 +86,11 @@ abbrev pub AreMadeOf : Bool → List Found → List Found → Type 0
 AreMadeOf false founds rows = rows ≡ founds
 AreMadeOf true founds rows =
     (groups : List Found) × AreGrouped founds groups × IsPermutation groups rows
+
+-- the order of one of these outcomes can't be made again
+abbrev pub IsSomeStuck : ScriptParts → List Found → Type 0
+IsSomeStuck script rows =
+    (place : ℕ) × (row : Found) × (slice_get rows place ≡ Some row) × StopsShort script row.outcome.path.items
 
 -- the rows of what is asked of a script's orders: their outcomes, each of which tells how many orders lead to it
 pub record AreRowsOf (script : ScriptParts) (order : Order) (rows : List Found) : Type 0 where

@@ -148,7 +148,8 @@ fn table_of(alloc: Global, script: &Script, order: &Order<'_>) -> Result<Vec<u8>
 {
     let rows = rows_of(alloc, script, order)?;
     let columns = Columns::of(alloc, script, rows.as_slice())?;
-    Ok(table(alloc, &columns, rows.as_slice())?)
+    paths_can_be_made();
+    Ok(table(alloc, &columns, rows.as_slice())?.into_bytes())
 }
 
 /// Writes the table of the outcomes.

@@ -1,6 +1,7 @@
 //! What the table tells of outcomes.
 
 ghost use Rattle.std.specs.Prelude.{◌≡◌, IfOk, map, string_bytes};
+ghost use Rattle.irp_orders.specs.Lines as spec;
 
 use crate::differing::{PacketFacts, drivers_differ, packet_facts};
 use crate::found::Found;
@@ -85,7 +86,7 @@ pub struct Columns<'a> {
     pub orders: u128,
 }
 
-/// How many orders lead to these outcomes.
+/// How many orders lead to these outcomes; 2^128 - 1 where there are more.
 pub fn orders_of(founds: &[Found]) -> u128 {
     let mut orders = 0u128;
     for found in founds {
@@ -114,5 +115,55 @@ impl<'a> Columns<'a> {
             tells_drivers: drivers_differ(founds),
             orders: orders_of(founds),
         })
+    }
+
+    /// Whether the answers of the step at this place are told.
+    pub fn tells_step(&self, place: usize) -> bool
+        ensures { result ≡ spec.tells_step self.now place }
+    {
+        match self.marks.get(place) {
+            Some(mark) => mark.step,
+            None => false,
+        }
+    }
+
+    /// Whether the label at this place is told.
+    pub fn tells_label(&self, place: usize) -> bool
+        ensures { result ≡ spec.tells_label self.now place }
+    {
+        match self.marks.get(place) {
+            Some(mark) => mark.label,
+            None => false,
+        }
+    }
+
+    /// Whether the device of this number is told.
+    pub fn tells_device(&self, number: usize) -> bool
+        ensures { result ≡ spec.tells_device self.now number }
+    {
+        match self.marks.get(number) {
+            Some(mark) => mark.device,
+            None => false,
+        }
+    }
+
+    /// Whether the remove lock of this number is told.
+    pub fn tells_lock(&self, number: usize) -> bool
+        ensures { result ≡ spec.tells_lock self.now number }
+    {
+        match self.marks.get(number) {
+            Some(mark) => mark.lock,
+            None => false,
+        }
+    }
+
+    /// Whether the cancel slot of this number is told.
+    pub fn tells_slot(&self, number: usize) -> bool
+        ensures { result ≡ spec.tells_slot self.now number }
+    {
+        match self.marks.get(number) {
+            Some(mark) => mark.slot,
+            None => false,
+        }
     }
 }

@@ -17,14 +17,15 @@ use crate::columns::{Columns, orders_of};
 use crate::ending::Ending;
 use crate::facts::meets;
 use crate::found::Found;
-use crate::in_order::put_in_order;
 use crate::right::is_right;
+use crate::steps::put_in_order;
 use crate::such::put_such;
 use crate::table::{put_end, put_head};
-use crate::text::Text;
+use crate::text::tell;
 use crate::wrongs::put_wrongs;
 use irp_condition::Condition;
 use irp_machine::NotMade;
+use irp_names::Sink;
 use irp_script_reader::{Script, Step};
 use irp_types::Entry;
 use std::alloc::{AllocError, Global};
@@ -102,7 +103,6 @@ fn shortest(founds: &[Found], marks: &[bool]) -> Option<usize>
 }
 
 /// Whether an outcome breaks what is asked. The one error is want of memory.
-#[tactic(auto, using(crate::proofs::Righting::wrong_mark))]
 fn breaks(
     alloc: Global,
     steps: &[Step],
@@ -156,12 +156,12 @@ pub fn judged(
 }
 
 /// Puts the seats of an order's atomic steps, one after another.
-fn put_seats(out: &mut Text, path: &[u32]) {
+fn put_seats(out: &mut Sink, path: &[u32]) {
     out.put("    the seats of its atomic steps:");
     for seat in path {
-        out.tell(" ", *seat);
+        tell(out, " ", *seat);
     }
-    out.end();
+    out.put("\n");
 }
 
 /// How many of the outcomes are marked, and how many orders lead to these.
@@ -176,22 +176,22 @@ fn marked(founds: &[Found], marks: &[bool]) -> (usize, u128) {
     (outcomes, orders)
 }
 
-/// Puts an outcome with each step of its order, one after another.
+/// Puts an outcome with each step of its order that was answered, as it was, in the order of the answers.
 ///
 /// # Errors
 ///
 /// `NoStep` where its order can't be made again; `Memory` where memory ran out.
 fn put_shown(
     alloc: Global,
-    out: &mut Text,
+    out: &mut Sink,
     columns: &Columns<'_>,
-    place: usize,
+    number: usize,
     found: &Found,
 ) -> Result<(), NotMade> {
     let path = found.outcome.path.as_slice();
-    put_head(out, columns, place.saturating_add(1), found);
+    put_head(out, columns.orders, number, found);
     put_in_order(alloc, out, columns, path)?;
-    put_end(out, columns, found);
+    put_end(out, columns, &found.outcome.end);
     put_seats(out, path);
     Ok(())
 }
@@ -202,35 +202,29 @@ fn told_kept(
     founds: &[Found],
     question: Question<'_>,
 ) -> Result<Vec<u8>, AllocError> {
-    let mut out = Text::new(alloc);
-    out.tell(
-        match question {
-            Question::Never(_) => "never: it holds in none of ",
-            Question::Right(_) => "right: ",
-        },
-        orders_of(founds),
-    );
-    out.tell(" orders, ", founds.len());
-    out.put(" outcomes");
-    out.end();
-    out.finish()
+    let mut out = Sink::new(alloc);
+    let words = match question {
+        Question::Never(_) => "never: it holds in none of ",
+        Question::Right(_) => "right: ",
+    };
+    tell(&mut out, words, orders_of(founds));
+    tell(&mut out, " orders, ", founds.len());
+    out.put(" outcomes\n");
+    Ok(out.finish()?.into_bytes())
 }
 
 /// Puts how many outcomes break what is asked, and how many orders lead to these.
-fn put_counts(out: &mut Text, founds: &[Found], question: Question<'_>, marks: &[bool]) {
+fn put_counts(out: &mut Sink, founds: &[Found], question: Question<'_>, marks: &[bool]) {
     let (outcomes, orders) = marked(founds, marks);
-    out.tell(
-        match question {
-            Question::Never(_) => "it holds in ",
-            Question::Right(_) => "not right in ",
-        },
-        orders,
-    );
-    out.tell(" of ", orders_of(founds));
-    out.tell(" orders, ", outcomes);
-    out.tell(" of ", founds.len());
-    out.put(" outcomes; one of them:");
-    out.end();
+    let words = match question {
+        Question::Never(_) => "it holds in ",
+        Question::Right(_) => "not right in ",
+    };
+    tell(out, words, orders);
+    tell(out, " of ", orders_of(founds));
+    tell(out, " orders, ", outcomes);
+    tell(out, " of ", founds.len());
+    out.put(" outcomes; one of them:\n");
 }
 
 /// These lines, with those of the outcome at a place, which shows that what is asked is broken, and why.
@@ -240,18 +234,18 @@ fn put_counts(out: &mut Text, founds: &[Found], question: Question<'_>, marks: &
 /// `NoStep` where its order can't be made again; `Memory` where memory ran out.
 fn with_shown(
     alloc: Global,
-    mut out: Text,
+    mut out: Sink,
     columns: &Columns<'_>,
     question: Question<'_>,
     place: usize,
     found: &Found,
 ) -> Result<Vec<u8>, NotMade> {
-    put_shown(alloc, &mut out, columns, place, found)?;
+    put_shown(alloc, &mut out, columns, place.saturating_add(1), found)?;
     match question {
-        Question::Never(_) => Ok(out.finish()?),
+        Question::Never(_) => Ok(out.finish()?.into_bytes()),
         Question::Right(setup) => {
             put_wrongs(&mut out, columns, setup, found);
-            let mut text = out.finish()?;
+            let mut text = out.finish()?.into_bytes();
             put_such(alloc, &mut text, columns.script, &found.outcome.end)?;
             Ok(text)
         }
@@ -271,11 +265,11 @@ fn told_broken(
     judged: &Judgment,
     place: usize,
 ) -> Result<Vec<u8>, NotMade> {
-    let mut out = Text::new(alloc);
+    let mut out = Sink::new(alloc);
     put_counts(&mut out, founds, question, judged.marks.as_slice());
     match founds.get(place) {
         Some(found) => with_shown(alloc, out, columns, question, place, found),
-        None => Ok(out.finish()?),
+        None => Ok(out.finish()?.into_bytes()),
     }
 }
 

@@ -15,7 +15,6 @@ mod facts;
 mod found;
 mod groups;
 mod help;
-mod in_order;
 mod in_words;
 mod judging;
 mod names;

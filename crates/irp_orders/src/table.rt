@@ -1,80 +1,62 @@
 //! The table of outcomes.
 
+ghost use Rattle.std.specs.Prelude.{◌≡◌, IfErr};
+ghost use Rattle.irp_machine.specs.Replays.{StopsShort};
+ghost use Rattle.irp_machine.specs.declared.limits.NotMade.TheVariants.{NoStep};
+ghost use Rattle.irp_orders.specs.Rows.{IsSomeStuck};
+
 use crate::columns::Columns;
-use crate::ends::{names, put_device, put_label, put_live, put_location, put_lock, put_slot};
+use crate::ends::{names, put_device, put_label, put_lock, put_packet, put_slot};
 use crate::found::Found;
-use crate::steps::put_step;
-use crate::text::Text;
-use irp_machine::LiveEnd;
-use irp_types::{IrpRef, Preparation};
-use std::alloc::{AllocError, Global};
+use crate::steps::put_differing_in_order;
+use crate::text::tell;
+use irp_machine::{DeviceEnd, End, LiveEnd, LockEnd, NotMade, SlotEnd};
+use irp_names::Sink;
+use irp_types::IrpRef;
+use std::alloc::Global;
+
+/// Puts tenths of a percent.
+fn put_tenths(out: &mut Sink, tenths: u128) {
+    tell(out, " (", tenths / 10);
+    tell(out, ".", tenths % 10);
+    out.put(" %)");
+}
 
 /// Puts a part of a whole, in tenths of a percent; nothing where the numbers are too large for that.
-fn put_share(out: &mut Text, part: u128, whole: u128) {
-    if let Some(thousandfold) = part.checked_mul(1000)
-        && whole != 0
-    {
-        let tenths = thousandfold / whole;
-        out.tell(" (", tenths / 10);
-        out.tell(".", tenths % 10);
-        out.put(" %)");
+fn put_share(out: &mut Sink, part: u128, whole: u128) {
+    if whole == 0 {
+        return;
+    }
+    if let Some(thousandfold) = part.checked_mul(1000) {
+        put_tenths(out, thousandfold / whole);
     }
 }
 
-/// Puts the first line of an outcome, which has this number: how many orders lead to it.
-pub fn put_head(out: &mut Text, columns: &Columns<'_>, number: usize, found: &Found) {
-    let (part, whole) = (found.orders, columns.orders);
-    out.tell("outcome ", number);
-    out.tell(": ", part);
-    out.tell(" of ", whole);
-    out.put(" orders");
-    put_share(out, part, whole);
-    if found.joined > 1 {
-        out.tell(", ", found.joined);
+/// Puts how many outcomes were joined in a row, where there are several.
+fn put_joined(out: &mut Sink, joined: usize) {
+    if joined > 1 {
+        tell(out, ", ", joined);
         out.put(" outcomes alike");
     }
-    out.end();
 }
 
-/// Puts the steps whose answers differ between outcomes.
-fn put_steps(out: &mut Text, columns: &Columns<'_>, found: &Found) {
-    let steps = columns.script.parts().steps.as_slice();
-    let answered = steps.iter().zip(found.answers.iter());
-    for (place, ((step, answer), mark)) in answered.zip(columns.marks.iter()).enumerate() {
-        if let Some(answer) = *answer
-            && mark.step
-        {
-            put_step(out, columns.labels, place, *step, answer);
-        }
-    }
-}
-
-/// Puts the locations of a live packet.
-fn put_locations(out: &mut Text, live: &LiveEnd) {
-    let mut number = match live.preparation {
-        Preparation::Nothing => u64::from(live.current),
-        Preparation::Filled | Preparation::Skipped => u64::from(live.current).saturating_sub(1),
-    };
-    for location in live.locations.as_slice() {
-        put_location(out, number, *location);
-        number = number.saturating_add(1);
-    }
+/// Puts the first line of an outcome, which has this number: how many of so many orders lead to it.
+pub fn put_head(out: &mut Sink, whole: u128, number: usize, found: &Found) {
+    tell(out, "outcome ", number);
+    tell(out, ": ", found.orders);
+    tell(out, " of ", whole);
+    out.put(" orders");
+    put_share(out, found.orders, whole);
+    put_joined(out, found.joined);
+    out.put("\n");
 }
 
 /// Puts the live packets.
-fn put_packets(out: &mut Text, columns: &Columns<'_>, found: &Found) {
-    let end = &found.outcome.end;
-    for live in end.packets.as_slice() {
-        put_live(
-            out,
-            live,
-            columns.facts,
-            columns.labels,
-            end.labels.as_slice(),
-        );
-        if columns.facts.locations {
-            put_locations(out, live);
-        }
+fn put_packets(out: &mut Sink, columns: &Columns<'_>, end: &End) {
+    let (labels, named) = (columns.labels, end.labels.as_slice());
+    let packets = end.packets.as_slice();
+    for live in packets {
+        put_packet(out, columns.facts, labels, named, live);
     }
 }
 
@@ -83,72 +65,131 @@ fn is_live(packets: &[LiveEnd], irp: &IrpRef) -> bool {
     packets.iter().any(|live| names(irp, live))
 }
 
+/// Puts a label that stands for another packet in another outcome, where this names no live one.
+fn put_label_if(
+    out: &mut Sink,
+    columns: &Columns<'_>,
+    end: &End,
+    place: usize,
+    label: &str,
+    irp: IrpRef,
+) {
+    if columns.tells_label(place) && !is_live(end.packets.as_slice(), &irp) {
+        put_label(out, label, irp);
+    }
+}
+
+/// Puts the label at a place, where it stands for another packet in another outcome, and names no live one.
+fn put_label_at(out: &mut Sink, columns: &Columns<'_>, end: &End, place: usize, label: &str) {
+    if let Some(irp) = end.labels.as_slice().get(place) {
+        put_label_if(out, columns, end, place, label, *irp);
+    }
+}
+
 /// Puts the labels that stand for other packets in other outcomes, where they name no live one.
-fn put_labels(out: &mut Text, columns: &Columns<'_>, found: &Found) {
-    let end = &found.outcome.end;
-    let named = columns.labels.iter().zip(end.labels.as_slice().iter());
-    for ((label, irp), mark) in named.zip(columns.marks.iter()) {
-        if mark.label && !is_live(end.packets.as_slice(), irp) {
-            put_label(out, label.as_str(), *irp);
-        }
+fn put_labels(out: &mut Sink, columns: &Columns<'_>, end: &End) {
+    let labels = columns.labels;
+    for place in 0..labels.len() {
+        put_label_at(out, columns, end, place, labels[place].as_str());
+    }
+}
+
+/// Puts a device, if other outcomes leave it in another state.
+fn put_device_if(out: &mut Sink, columns: &Columns<'_>, number: usize, device: DeviceEnd) {
+    if columns.tells_device(number) {
+        put_device(out, columns.tells_drivers, number, device);
     }
 }
 
 /// Puts the devices that other outcomes leave in another state.
-fn put_devices(out: &mut Text, columns: &Columns<'_>, found: &Found) {
-    let devices = found.outcome.end.devices.as_slice();
-    for (number, (device, mark)) in devices.iter().zip(columns.marks.iter()).enumerate() {
-        if mark.device {
-            put_device(out, number, *device, columns.tells_drivers);
-        }
+fn put_devices(out: &mut Sink, columns: &Columns<'_>, end: &End) {
+    let devices = end.devices.as_slice();
+    for number in 0..devices.len() {
+        put_device_if(out, columns, number, devices[number]);
+    }
+}
+
+/// Puts a remove lock, if some order leaves it with a word other than 0.
+fn put_lock_if(out: &mut Sink, columns: &Columns<'_>, number: usize, lock: &LockEnd) {
+    if columns.tells_lock(number) {
+        put_lock(out, number, lock);
     }
 }
 
 /// Puts the remove locks that some order leaves with a word other than 0.
-fn put_locks(out: &mut Text, columns: &Columns<'_>, found: &Found) {
-    let locks = found.outcome.end.locks.as_slice();
-    for (number, (lock, mark)) in locks.iter().zip(columns.marks.iter()).enumerate() {
-        if mark.lock {
-            put_lock(out, number, lock);
-        }
+fn put_locks(out: &mut Sink, columns: &Columns<'_>, end: &End) {
+    let locks = end.locks.as_slice();
+    for number in 0..locks.len() {
+        put_lock_if(out, columns, number, &locks[number]);
+    }
+}
+
+/// Puts a cancel slot, if some order leaves it otherwise than empty and not asked for.
+fn put_slot_if(out: &mut Sink, columns: &Columns<'_>, number: usize, slot: SlotEnd) {
+    if columns.tells_slot(number) {
+        put_slot(out, number, slot);
     }
 }
 
 /// Puts the cancel slots that some order leaves otherwise than empty and not asked for.
-fn put_slots(out: &mut Text, columns: &Columns<'_>, found: &Found) {
-    let slots = found.outcome.end.slots.as_slice();
-    for (number, (slot, mark)) in slots.iter().zip(columns.marks.iter()).enumerate() {
-        if mark.slot {
-            put_slot(out, number, *slot);
-        }
+fn put_slots(out: &mut Sink, columns: &Columns<'_>, end: &End) {
+    let slots = end.slots.as_slice();
+    for number in 0..slots.len() {
+        put_slot_if(out, columns, number, slots[number]);
     }
 }
 
 /// Puts what an outcome leaves.
-pub fn put_end(out: &mut Text, columns: &Columns<'_>, found: &Found) {
-    put_packets(out, columns, found);
-    put_labels(out, columns, found);
-    put_devices(out, columns, found);
-    put_locks(out, columns, found);
-    put_slots(out, columns, found);
+pub fn put_end(out: &mut Sink, columns: &Columns<'_>, end: &End) {
+    put_packets(out, columns, end);
+    put_labels(out, columns, end);
+    put_devices(out, columns, end);
+    put_locks(out, columns, end);
+    put_slots(out, columns, end);
+}
+
+/// Puts the lines of an outcome, which has this number.
+///
+/// # Errors
+///
+/// `NoStep` where its order can't be made again; `Memory` where memory ran out.
+fn put_row(
+    alloc: Global,
+    out: &mut Sink,
+    columns: &Columns<'_>,
+    number: usize,
+    row: &Found,
+) -> Result<(), NotMade>
+    ensures no_step { IfErr result (λ refusal. refusal ≡ NoStep
+        → StopsShort columns.now.script.now row.now.outcome.path.items) }
+{
+    put_head(out, columns.orders, number, row);
+    put_differing_in_order(alloc, out, columns, row.outcome.path.as_slice())?;
+    put_end(out, columns, &row.outcome.end);
+    Ok(())
+}
+
+/// Puts the first line of the table: how many outcomes there are, of how many orders.
+fn put_table_head(out: &mut Sink, outcomes: usize, orders: u128) {
+    tell(out, "outcomes: ", outcomes);
+    tell(out, ", of ", orders);
+    out.put(" orders\n");
 }
 
 /// The table of these outcomes, in their order: how many there are of how many orders, and of each how many orders lead to
-/// it, the answers that differ between outcomes, and what it leaves. The one error is want of memory.
-pub fn table(
-    alloc: Global,
-    columns: &Columns<'_>,
-    founds: &[Found],
-) -> Result<Vec<u8>, AllocError> {
-    let mut out = Text::new(alloc);
-    out.tell("outcomes: ", founds.len());
-    out.tell(", of ", columns.orders);
-    out.put(" orders");
-    out.end();
-    for (place, found) in founds.iter().enumerate() {
-        put_head(&mut out, columns, place.saturating_add(1), found);
-        put_steps(&mut out, columns, found);
-        put_end(&mut out, columns, found);
+/// it, the answers that differ between outcomes, in the order in which they were given, and what it leaves.
+///
+/// # Errors
+///
+/// `NoStep` where the order of an outcome can't be made again; `Memory` where memory ran out.
+pub fn table(alloc: Global, columns: &Columns<'_>, rows: &[Found]) -> Result<String, NotMade>
+    ensures no_step { IfErr result (λ refusal. refusal ≡ NoStep
+        → IsSomeStuck columns.now.script.now rows.now) }
+{
+    let mut out = Sink::new(alloc);
+    put_table_head(&mut out, rows.len(), columns.orders);
+    for place in 0..rows.len() {
+        put_row(alloc, &mut out, columns, place + 1, &rows[place])?;
     }
-    out.finish()
+    Ok(out.finish()?)
 }

@@ -1,49 +1,26 @@
-//! Text that grows line by line.
+//! Words, and what is displayed behind them.
 
-use irp_listing::put_line;
+ghost use Rattle.std.specs.Prelude.{◌++◌, IfSome};
+ghost use Rattle.irp_names.specs.Sinks.{Says};
+ghost use Rattle.irp_names.specs.Small.{hex_text};
+
 use irp_names::Sink;
-use std::alloc::{AllocError, Global};
 use std::fmt;
 
-/// Text that grows piece by piece, and line by line. Where memory runs out it remembers that, and takes nothing more.
-#[derive(Drop)]
-pub struct Text {
-    lines: Vec<u8>,
-    /// The line that isn't ended yet; it remembers that memory ran out.
-    line: Sink,
+/// Puts words, and what is displayed behind them.
+#[tactic(auto, using(irp_names::proofs::Saying::says_both))]
+pub fn tell<D: fmt::Display + Drop>(out: &mut Sink, words: &str, shown: D)
+    ensures { IfSome (D.output shown) (λ told. Says (words.now ++ told) out.old out.new) }
+{
+    out.put(words);
+    out.show(shown);
 }
 
-impl Text {
-    /// No text. It takes no memory.
-    pub fn new(alloc: Global) -> Text {
-        Text {
-            lines: Vec::new(alloc),
-            line: Sink::new(alloc),
-        }
-    }
-
-    /// Puts words.
-    pub fn put(&mut self, words: &str) {
-        self.line.put(words);
-    }
-
-    /// Puts words, and what is displayed behind them.
-    pub fn tell<D: fmt::Display + Drop>(&mut self, words: &str, shown: D) {
-        self.put(words);
-        self.line.show(shown);
-    }
-
-    /// Ends the line, in which each newline becomes a space.
-    pub fn end(&mut self) {
-        if put_line(&mut self.lines, self.line.words()).is_err() {
-            self.line.run_out();
-        }
-        self.line.clear();
-    }
-
-    /// The lines that were ended. The one error is that memory ran out.
-    pub fn finish(self) -> Result<Vec<u8>, AllocError> {
-        self.line.finish()?;
-        Ok(self.lines)
-    }
+/// Puts words, and a number as `0x10` behind them.
+#[tactic(auto, using(irp_names::proofs::Saying::says_both))]
+pub fn tell_hexadecimal(out: &mut Sink, words: &str, number: u64)
+    ensures { Says (words.now ++ hex_text number) out.old out.new }
+{
+    out.put(words);
+    out.hexadecimal(number);
 }

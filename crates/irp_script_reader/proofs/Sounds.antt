@@ -450,7 +450,7 @@ slots_kept keys.One whole = omega arith
 slots_kept keys.Two whole =
     then_from (count_at section.Slots 0 (codes "slots") whole) _ (IsCount 0) (λ form. slots_of form ≤ 64)
     (count_kept section.Slots 0 (codes "slots") whole) (λ count few. few.1)
-slots_kept keys.Three whole =
+slots_kept keys.Four whole =
     then_from (count_at section.Slots 0 (codes "slots") whole) _ (IsCount 0) (λ form. slots_of form ≤ 64)
     (count_kept section.Slots 0 (codes "slots") whole) (λ count few. few.1)
 

@@ -7,25 +7,25 @@ use Rattle.irp_types.specs.declared.call.Call.TheVariants.{FinishTaken}
 use Rattle.irp_script_reader.specs.declared.{act.Step.Step, act.StepAct.StepAct, condition.Condition.Condition}
 use Rattle.irp_script_reader.specs.declared.script.ScriptForm.{ScriptForm}
 use Rattle.irp_script_reader.specs.declared.act.StepAct.TheVariants as act
-use Rattle.irp_script_reader.specs.declared.script.ScriptForm.TheVariants.{One, Two, Three}
+use Rattle.irp_script_reader.specs.declared.script.ScriptForm.TheVariants.{One, Two, Four}
 
 -- how many cancel slots there are
 abbrev pub slots_of : ScriptForm → ℕ
 slots_of One = 0
 slots_of (Two slots) = slots
-slots_of (Three slots) = slots
+slots_of (Four slots) = slots
 
--- form 2, or form 3, which has all of it
+-- form 2, or form 4, which has all of it
 abbrev pub has_slots : ScriptForm → Bool
 has_slots One = false
 has_slots (Two slots) = true
-has_slots (Three slots) = true
+has_slots (Four slots) = true
 
--- form 3
+-- form 4
 abbrev pub has_conditions : ScriptForm → Bool
 has_conditions One = false
 has_conditions (Two slots) = false
-has_conditions (Three slots) = true
+has_conditions (Four slots) = true
 
 -- a cancel slot that is there, and that belongs to this seat of so many
 abbrev pub owns : ScriptForm → ℕ → ℕ → ℕ → Bool
@@ -61,7 +61,7 @@ abbrev pub names_earlier : List Step → ℕ → Condition → Bool
 names_earlier before seat condition =
     option_map_or (λ (step : Step). step.seat == seat) (slice_get before condition.step) false
 
--- what a step may hang on, behind these: in form 3 on the answer of one of its own seat; in any form on nothing
+-- what a step may hang on, behind these: in form 4 on the answer of one of its own seat; in any form on nothing
 abbrev pub may_hang : ScriptForm → List Step → ℕ → Option Condition → Bool
 may_hang form before seat None = true
 may_hang form before seat (Some condition) = has_conditions form && names_earlier before seat condition

@@ -30,7 +30,7 @@ abbrev pub form_of : Option ℕ → Result FormKey ScriptRefusal
 form_of None = Err BadForm
 form_of (Some given) =
     if given == 1 then Ok keys.One else
-    (if given == 2 then Ok keys.Two else (if given == 3 then Ok keys.Three else Err BadForm))
+    (if given == 2 then Ok keys.Two else (if given == 4 then Ok keys.Four else Err BadForm))
 
 -- what a script has under `form`; only an object has that
 unfoldable pub form_at : Data → Result FormKey ScriptRefusal
@@ -40,7 +40,7 @@ form_at whole = form_of (option_and_then u32_at (get (codes "form") whole))
 abbrev pub beside : FormKey → List (List ℕ)
 beside keys.One = []
 beside keys.Two = codes "slots" ∷ []
-beside keys.Three = codes "slots" ∷ []
+beside keys.Four = codes "slots" ∷ []
 
 -- the keys of a script of this form
 abbrev pub its_keys : FormKey → List (List ℕ)
@@ -65,7 +65,7 @@ count_at part least key whole = count_of part least (option_and_then u32_at (get
 unfoldable pub with_slots : FormKey → Data → Result ScriptForm ScriptRefusal
 with_slots keys.One whole = Ok forms.One
 with_slots keys.Two whole = count_at section.Slots 0 (codes "slots") whole >>= λ slots. Ok (forms.Two slots)
-with_slots keys.Three whole = count_at section.Slots 0 (codes "slots") whole >>= λ slots. Ok (forms.Three slots)
+with_slots keys.Four whole = count_at section.Slots 0 (codes "slots") whole >>= λ slots. Ok (forms.Four slots)
 
 -- the completion routines, and the cancel routines, which are counted beside them
 unfoldable pub routines_at : Data → Result (List CompletionRoutine × Cancels) ScriptRefusal

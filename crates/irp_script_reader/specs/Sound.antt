@@ -41,7 +41,7 @@ IsStep form seats step = (step.seat < seats) × (may_do form seats step.seat ste
 -- A script is within the limits: it has a seat and a remove lock at least, and no more of anything than there may be.
 -- Behaviours are those of their rules; plans are those that the form has, sound, and name only routines that the script
 -- has; drivers name only dispatches that it has; no two labels are the same; each step's seat is there and may do it, and
--- hangs it on nothing, or in form 3 on the answer of an earlier one of its own; and `setup` has no step on a remove lock
+-- hangs it on nothing, or in form 4 on the answer of an earlier one of its own; and `setup` has no step on a remove lock
 -- or on a cancel slot, and none with a condition.
 pub record IsSound (script : ScriptParts) : Type 0 where
   pub some_seats : 1 ≤ script.seats

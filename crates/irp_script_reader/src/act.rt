@@ -44,7 +44,7 @@ pub struct Step {
     pub seat: u32,
     /// What it does.
     pub act: StepAct,
-    /// What it hangs on, in form 3 alone: in a `Script` it names an earlier step of the same seat. A step whose condition
+    /// What it hangs on, in form 4 alone: in a `Script` it names an earlier step of the same seat. A step whose condition
     /// fails is passed over. None where it is made in any case.
     pub condition: Option<Condition>,
 }

@@ -45,18 +45,18 @@ fn names_earlier(before: &[Step], seat: u32, condition: Condition) -> bool
 }
 
 impl ScriptForm {
-    /// Whether it is form 2, or form 3, which has all of it.
+    /// Whether it is form 2, or form 4, which has all of it.
     fn has_slots(self) -> bool
         ensures { result ≡ has_slots self }
     {
-        matches!(self, ScriptForm::Two { .. } | ScriptForm::Three { .. })
+        matches!(self, ScriptForm::Two { .. } | ScriptForm::Four { .. })
     }
 
-    /// Whether it is form 3.
+    /// Whether it is form 4.
     fn has_conditions(self) -> bool
         ensures { result ≡ has_conditions self }
     {
-        matches!(self, ScriptForm::Three { .. })
+        matches!(self, ScriptForm::Four { .. })
     }
 
     /// Whether the slot is there and belongs to the seat: slot k to seat k modulo the number of seats.
@@ -93,7 +93,7 @@ impl ScriptForm {
         }
     }
 
-    /// Whether a step of this seat may hang on this, behind these: in form 3 on the answer of one of its own seat; in any
+    /// Whether a step of this seat may hang on this, behind these: in form 4 on the answer of one of its own seat; in any
     /// form on nothing.
     pub fn may_hang(self, before: &[Step], seat: u32, condition: Option<Condition>) -> bool
         ensures { result ≡ may_hang self before.now seat condition }

@@ -27,8 +27,8 @@ enum FormKey {
     One,
     /// The number 2.
     Two,
-    /// The number 3.
-    Three,
+    /// The number 4.
+    Four,
 }
 
 /// The form of a script.
@@ -39,7 +39,7 @@ fn form_at(value: &Value) -> Result<FormKey, ScriptFault>
     match under::<u32>("form", value) {
         Some(1) => Ok(FormKey::One),
         Some(2) => Ok(FormKey::Two),
-        Some(3) => Ok(FormKey::Three),
+        Some(4) => Ok(FormKey::Four),
         _ => Err(ScriptFault::Refused(ScriptRefusal::BadForm)),
     }
 }
@@ -64,7 +64,7 @@ fn keys_at(given: FormKey, value: &Value) -> Result<(), ScriptFault>
     match given {
         FormKey::One => only_keys(value, keys, &[]).ok_or(fault),
         FormKey::Two => only_keys(value, keys, &["slots"]).ok_or(fault),
-        FormKey::Three => only_keys(value, keys, &["slots"]).ok_or(fault),
+        FormKey::Four => only_keys(value, keys, &["slots"]).ok_or(fault),
     }
 }
 
@@ -90,9 +90,9 @@ fn with_slots(given: FormKey, value: &Value) -> Result<ScriptForm, ScriptFault>
             let slots = count_at(Section::Slots, 0, "slots", value)?;
             Ok(ScriptForm::Two { slots })
         }
-        FormKey::Three => {
+        FormKey::Four => {
             let slots = count_at(Section::Slots, 0, "slots", value)?;
-            Ok(ScriptForm::Three { slots })
+            Ok(ScriptForm::Four { slots })
         }
     }
 }

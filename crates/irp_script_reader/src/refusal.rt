@@ -8,7 +8,7 @@ pub enum MemberFault {
     /// A key is missing, unknown or of a wrong shape or range; a seat is not below `seats`; a step on a remove lock or
     /// on a cancel slot stands in `setup`; or what form 1 doesn't have stands there. From form 2 on also a hand to the
     /// step's own seat, and a publish in a slot, or a withdraw from one, that isn't there or isn't the seat's own. A
-    /// condition before form 3, or in `setup`, or one that names no earlier step of the step's own seat.
+    /// condition before form 4, or in `setup`, or one that names no earlier step of the step's own seat.
     #[error("S4")]
     BadField,
     /// A behaviour, the status of a finish or the setting of a forward is against its rule.

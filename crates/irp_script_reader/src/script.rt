@@ -43,7 +43,7 @@ pub enum ScriptForm {
         slots: u32,
     },
     /// The same, with steps that hang on what an earlier step of the same seat was answered.
-    Three {
+    Four {
         /// How many cancel slots there are, at most 64 in a `Script`.
         slots: u32,
     },
@@ -56,7 +56,7 @@ impl ScriptForm {
     {
         match self {
             ScriptForm::One => 0,
-            ScriptForm::Two { slots } | ScriptForm::Three { slots } => slots,
+            ScriptForm::Two { slots } | ScriptForm::Four { slots } => slots,
         }
     }
 }

@@ -6,7 +6,7 @@ ghost use Rattle.irp_types.specs.Histories.{IsLegal};
 ghost use Rattle.irp_manager.specs.Booked.{CalledIn};
 ghost use Rattle.irp_manager.specs.declared.not_recorded.NotRecorded.TheVariants.{Behind, HistoryFull};
 ghost use Rattle.irp_shared.specs.Answered.{AnswersSo, EachAnswered};
-ghost use Rattle.irp_shared.specs.Sharing.{IsAsBefore, IsBehind, IsFull};
+ghost use Rattle.irp_shared.specs.Sharing.{FindsFull, IsAsBefore, IsBehind, IsFull};
 
 use crate::session::Session;
 use irp_manager::{Book, NotRecorded, Receipt, Seat};
@@ -64,6 +64,7 @@ impl<A: Ask, L: Session> Locked<A, L> {
         ensures behind { (told : ℕ) → (result ≡ Err (Behind told))
             ↔ IsBehind self.old.book.history seat.old told }
         ensures full { (result ≡ Err HistoryFull) ↔ IsFull self.old.book.history seat.old }
+        ensures finds { result ≡ Err HistoryFull → FindsFull L.fixed L.may seat.old.seen }
     {
         let receipt = self.book.call(seat, call, note)?;
         Ok(receipt)

@@ -5,12 +5,12 @@ ghost use mathlib.Core.Logic.{◌↔◌};
 ghost use Rattle.irp_types.specs.declared.limit.Limit.TheVariants.{ThirtyTwo};
 ghost use Rattle.irp_types.specs.Histories.{IsLegal};
 ghost use Rattle.irp_types.specs.declared.entry.Entry.{Entry};
-ghost use Rattle.irp_manager.specs.declared.not_recorded.NotRecorded.TheVariants.{Behind};
+ghost use Rattle.irp_manager.specs.declared.not_recorded.NotRecorded.TheVariants.{Behind, HistoryFull};
 ghost use Rattle.irp_shared.specs.Answered.{AnswersSo, EachAnswered};
 ghost use Rattle.irp_shared.specs.Opening.{IsBadCount, IsGoodCount, AreNew};
 ghost use Rattle.irp_types.specs.declared.call.Call.TheVariants.{FinishTaken};
 ghost use Rattle.irp_slots.specs.declared.answers.Token.{Token};
-ghost use Rattle.irp_shared.specs.Sharing.{Called, IsAsBefore, is_done, given_back};
+ghost use Rattle.irp_shared.specs.Sharing.{Called, FindsFull, IsAsBefore, is_done, given_back};
 ghost use Rattle.irp_transcript.specs.Tokens.{needs_token};
 ghost use Rattle.irp_transcript.specs.Headers.{fixed_of, slots_of};
 ghost use Rattle.irp_shared.specs.Closing.{AllHere, Kept, Found, Closes, entry_at};
@@ -135,8 +135,9 @@ impl<A: Ask, L: Session> Shared<A, L> {
     /// # Errors
     ///
     /// `Memory` where a growth was refused, which may come first; else `Behind` and `HistoryFull` as `Book::call`
-    /// answers them. The clause says of `Behind` only that the length that it gives is below what the seat had seen,
-    /// since it can't name the history. The seat stays as it was, and nothing is recorded.
+    /// answers them. The clauses can't name the history under the lock. So of `Behind` they say that the length that it
+    /// gives is below what the seat had seen, and of `HistoryFull` that a legal history of the session, with 1,000,000
+    /// entries, has all that the seat had seen. The seat stays as it was, and nothing is recorded.
     pub fn call<N: DrainNote>(
         &self,
         rt: &impl Wait,
@@ -150,6 +151,7 @@ impl<A: Ask, L: Session> Shared<A, L> {
         ensures legal { IfOk result (λ receipt. IsLegal L.fixed receipt.history) }
         ensures err { OnErr result (IsAsBefore seat.old seat.new) }
         ensures behind { (told : ℕ) → result ≡ Err (Behind told) → told < seat.old.seen }
+        ensures full { result ≡ Err HistoryFull → FindsFull L.fixed L.may seat.old.seen }
     {
         if seat.room().is_err() {
             return Err(NotRecorded::Memory);
@@ -182,6 +184,8 @@ impl<A: Ask, L: Session> Shared<A, L> {
         ensures err { IfErr result (λ error. IsAsBefore seat.old seat.new × (error.1 ≡ token)) }
         ensures behind { (told : ℕ) (back : Token)
             → result ≡ Err (Behind told, back) → told < seat.old.seen }
+        ensures full { (back : Token)
+            → result ≡ Err (HistoryFull, back) → FindsFull L.fixed L.may seat.old.seen }
     {
         let call = Call::FinishTaken {
             irp,

@@ -10,4 +10,4 @@ use Rattle.irp_steps.specs.Forms.{form_of}
 pub slots_same : (form : ScriptForm) → slots_in (form_of form) ≡ slots_of form
 slots_same script_form.One = refl
 slots_same (script_form.Two slots) = refl
-slots_same (script_form.Three slots) = refl
+slots_same (script_form.Four slots) = refl

@@ -79,7 +79,7 @@ pub enum Part {
     DriverMajor,
     ScriptOne,
     ScriptTwo,
-    ScriptThree,
+    ScriptFour,
     ScriptStep,
     ScriptRoutine,
     Behaviour,
@@ -212,8 +212,8 @@ static MADE: [Row; 41] = parts! {
         "setup" Any "steps" Any) "a script of form 1";
     ScriptTwo (Keys "form" Any "seats" Any "locks" Any "slots" Any "completions" Any "cancels" Any "dispatches" Any
         "drivers" Any "setup" Any "steps" Any) "a script of form 2";
-    ScriptThree (Keys "form" Any "seats" Any "locks" Any "slots" Any "completions" Any "cancels" Any "dispatches" Any
-        "drivers" Any "setup" Any "steps" Any) "a script of form 3";
+    ScriptFour (Keys "form" Any "seats" Any "locks" Any "slots" Any "completions" Any "cancels" Any "dispatches" Any
+        "drivers" Any "setup" Any "steps" Any) "a script of form 4";
     ScriptStep (Act) "a step";
     ScriptRoutine (Items Rule Behaviour Behaviour) "";
     Behaviour (Kinds "") "";
@@ -260,7 +260,7 @@ static TOLD: [Telling; 40] = told! {
     Setting "" "a setting is [rule,number,context,flags]";
     SettingOrNull "" "a setting is [rule,number,context,flags]";
     Plan "the plan"
-        "a plan is \"finish\", \"hold\", \"skip\", \"forward\" or \"forward_pend\", in forms 2 and 3 \"hold_slot\"";
+        "a plan is \"finish\", \"hold\", \"skip\", \"forward\" or \"forward_pend\", in forms 2 and 4 \"hold_slot\"";
     CancelAnswer "the answer" "a cancel routine answers [\"finish\",information] or [\"leave\"]";
     Behaviour "the behaviour" "it is \"continue\", \"keep\" or [\"replace\",status,information]";
     ScriptRoutine "" "a completion routine is [rule,on_ok,on_err]";

@@ -50,9 +50,9 @@ fn check_condition(found: &mut Finding, around: Around, in_setup: bool, step: No
     let Some(condition) = step.get("if") else {
         return true;
     };
-    if around.form != 3 {
-        found.not_taken("\"if\"", condition, "only form 3 has steps with this key");
-        return found.remedy(Remedy::Do("Write \"form\":3 and the number of \"slots\""));
+    if around.form != 4 {
+        found.not_taken("\"if\"", condition, "only form 4 has steps with this key");
+        return found.remedy(Remedy::Do("Write \"form\":4 and the number of \"slots\""));
     }
     if in_setup {
         let words = "steps of \"setup\" haven't this key";

@@ -30,14 +30,14 @@ pub fn tell_form(found: &mut Finding, whole: Node) -> bool {
     }
     let Some(form) = whole.get("form") else {
         let words =
-            "the key \"form\" is missing; it is 1, 2 for a script with cancel slots, or 3 for steps with \"if\"";
+            "the key \"form\" is missing; it is 1, 2 for a script with cancel slots, or 4 for steps with \"if\"";
         return found.wrong(whole, &[Say(words)]);
     };
-    found.not_taken("\"form\"", form, "it is the number 1, 2 or 3");
+    found.not_taken("\"form\"", form, "it is the number 1, 2 or 4");
     match form.raw() {
         b"\"1\"" | b"1.0" => found.remedy(Remedy::Number(1)),
         b"\"2\"" | b"2.0" => found.remedy(Remedy::Number(2)),
-        b"\"3\"" | b"3.0" => found.remedy(Remedy::Number(3)),
+        b"\"4\"" | b"4.0" => found.remedy(Remedy::Number(4)),
         _ => false,
     }
 }
@@ -46,7 +46,7 @@ pub fn tell_form(found: &mut Finding, whole: Node) -> bool {
 pub fn check_top(found: &mut Finding, around: Around) -> bool {
     let part = match around.form {
         2 => Part::ScriptTwo,
-        3 => Part::ScriptThree,
+        4 => Part::ScriptFour,
         _ => Part::ScriptOne,
     };
     match around.whole.get("slots") {

@@ -80,7 +80,7 @@ stopped_first value before old fits = record {
 take_all : {T : Type 0} (count : ℕ) (items : List T) → length items ≤ count → take count items ≡ items
 take_all count items within = grind (arith, common_steps)
 
-text_next : {T : Type 0} (form : T → Data) (items : List T) (index : ℕ) (item : T) → index < length items → item ≡ get_or items index item → text_of (map form (take (index + 1) items)) ≡ text_of (map form (take index items)) ++ line_text (form item)
+pub text_next : {T : Type 0} (form : T → Data) (items : List T) (index : ℕ) (item : T) → index < length items → item ≡ get_or items index item → text_of (map form (take (index + 1) items)) ≡ text_of (map form (take index items)) ++ line_text (form item)
 unfolding text_of
 text_next form [] index item within is = absurd (omega arith)
 text_next form (first ∷ others) zero item within is = ap (λ value. line_text (form value) ++ []) (sym is) ∙ append-nil (line_text (form item))
@@ -89,7 +89,7 @@ text_next form (first ∷ others) (suc index) item within is =
     ∙ ap (λ text. line_text (form first) ++ text) (text_next form others index item (omega arith) is)
     ∙ sym (append_assoc (line_text (form first)) (text_of (map form (take index others))) (line_text (form item)))
 
-text_rest : {T : Type 0} (form : T → Data) (items : List T) (index : ℕ) → text_of (map form items) ≡ text_of (map form (take index items)) ++ text_of (map form (drop index items))
+pub text_rest : {T : Type 0} (form : T → Data) (items : List T) (index : ℕ) → text_of (map form items) ≡ text_of (map form (take index items)) ++ text_of (map form (drop index items))
 unfolding text_of
 text_rest form [] zero = refl
 text_rest form [] (suc index) = refl
@@ -139,7 +139,7 @@ entries_text entries = text_of (map entry_json entries)
 abbrev words_text : List WordLine → List ℕ
 words_text words = text_of (map word_json words)
 
-parts : (t : TranscriptValue) → text_of (lines t) ≡ text_of (header_lines t.header) ++ (entries_text t.entries ++ words_text t.words)
+pub parts : (t : TranscriptValue) → text_of (lines t) ≡ text_of (header_lines t.header) ++ (entries_text t.entries ++ words_text t.words)
 parts t =
     text_append (header_lines t.header) (map entry_json t.entries ++ map word_json t.words)
     ∙ ap (λ text. text_of (header_lines t.header) ++ text) (text_append (map entry_json t.entries) (map word_json t.words))

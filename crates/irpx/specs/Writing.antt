@@ -5,7 +5,7 @@ use Rattle.irp_transcript.specs.Transcripts.{TranscriptValue}
 use Rattle.irp_transcript_writer.specs.Lines.{lines, text_of}
 use Rattle.irp_streams.specs.Out.{risen}
 use Rattle.irp_fast_reader.specs.Fits.{Fits}
-use Rattle.irp_fast_reader.specs.Fitting.{Begins, IsReadBack, StopsAt}
+use Rattle.irp_fast_reader.specs.Fitting.{Begins, BeginsFitting, IsReadBack, StopsAt}
 use Rattle.irp_streams.specs.Streams.{Output}
 use Rattle.irpx.specs.declared.not_done.NotDone.{NotDone}
 use Rattle.irpx.specs.declared.not_done.NotDone.TheVariants as fault
@@ -32,8 +32,9 @@ pub record Prints (transcript : TranscriptValue) (before after : Output) : Type 
   pub written : Written (text_of (lines transcript)) before after
 
 -- a beginning of the transcript's text went out: before this part, which is the first that doesn't fit, all lines; else
--- it broke off
+-- it broke off within lines that fit
 abbrev pub StopsShort : TranscriptValue → Output → Output → NotDone → Type 0
 StopsShort transcript before after (fault.Unfit unfit) =
     StopsAt transcript before.gone after.gone unfit × (after.failures ≡ before.failures)
-StopsShort transcript before after told = BreaksOff (text_of (lines transcript)) before after told
+StopsShort transcript before after told =
+    BeginsFitting transcript before.gone after.gone × IsWritingFault before after told

@@ -15,8 +15,8 @@ use std::alloc::Global;
 /// # Errors
 ///
 /// `Unfit` with the first part that doesn't fit: exactly the lines before it went out. `Output` where the output failed,
-/// and exactly then its count of failures rose; `NoMemory` where memory ran out. After either, a beginning of the text
-/// went out, and not the whole.
+/// and exactly then its count of failures rose; `NoMemory` where memory ran out. After either, a beginning of the lines
+/// that fit went out, and not the whole text.
 pub fn write<O: Out>(alloc: Global, output: &mut O, transcript: &Transcript) -> Result<(), NotDone>
     ensures ok { OnOk result (Prints transcript.now
         (output_of (O.gone output.old) (O.failures output.old))

@@ -7,7 +7,7 @@
 DRIVER_INITIALIZE DriverEntry;
 static DRIVER_ADD_DEVICE SamplerAddDevice;
 static DRIVER_UNLOAD SamplerUnload;
-static DRIVER_DISPATCH SamplerCreateClose, SamplerRead, SamplerControl;
+static DRIVER_DISPATCH SamplerCreateClose, SamplerCleanup, SamplerRead, SamplerControl;
 static DRIVER_CANCEL SamplerCancel;
 static KDEFERRED_ROUTINE SamplerTick;
 
@@ -183,6 +183,34 @@ static NTSTATUS SamplerCreateClose(PDEVICE_OBJECT DeviceObject, PIRP Irp)
     return SamplerComplete(Irp, STATUS_SUCCESS, 0);
 }
 
+/* Added later: ends the reads of the file whose last handle is closed. */
+static NTSTATUS SamplerCleanup(PDEVICE_OBJECT DeviceObject, PIRP Irp)
+{
+    PSAMPLER_EXTENSION ext = DeviceObject->DeviceExtension;
+    PFILE_OBJECT file = IoGetCurrentIrpStackLocation(Irp)->FileObject;
+    LIST_ENTRY ended;
+    PLIST_ENTRY entry, next;
+    KIRQL irql;
+
+    InitializeListHead(&ended);
+    KeAcquireSpinLock(&ext->Lock, &irql);
+    for (entry = ext->Queue.Flink; entry != &ext->Queue; entry = next) {
+        PIRP read = CONTAINING_RECORD(entry, IRP, Tail.Overlay.ListEntry);
+        next = entry->Flink;
+        if (IoGetCurrentIrpStackLocation(read)->FileObject == file && IoSetCancelRoutine(read, NULL) != NULL) {
+            RemoveEntryList(entry);
+            InsertTailList(&ended, entry);
+        }
+    }
+    KeReleaseSpinLock(&ext->Lock, irql);
+    while (!IsListEmpty(&ended)) {
+        PIRP read = CONTAINING_RECORD(RemoveHeadList(&ended), IRP, Tail.Overlay.ListEntry);
+        SamplerComplete(read, STATUS_CANCELLED, 0);
+        IoReleaseRemoveLock(&ext->RemoveLock, read);
+    }
+    return SamplerComplete(Irp, STATUS_SUCCESS, 0);
+}
+
 NTSTATUS SamplerPass(PDEVICE_OBJECT DeviceObject, PIRP Irp)
 {
     PSAMPLER_EXTENSION ext = DeviceObject->DeviceExtension;
@@ -288,7 +316,7 @@ NTSTATUS DriverEntry(PDRIVER_OBJECT DriverObject, PUNICODE_STRING RegistryPath)
         DriverObject->MajorFunction[i] = SamplerPass;
     DriverObject->MajorFunction[IRP_MJ_CREATE] = SamplerCreateClose;
     DriverObject->MajorFunction[IRP_MJ_CLOSE] = SamplerCreateClose;
-    DriverObject->MajorFunction[IRP_MJ_CLEANUP] = SamplerCreateClose;
+    DriverObject->MajorFunction[IRP_MJ_CLEANUP] = SamplerCleanup;
     DriverObject->MajorFunction[IRP_MJ_READ] = SamplerRead;
     DriverObject->MajorFunction[IRP_MJ_DEVICE_CONTROL] = SamplerControl;
     DriverObject->MajorFunction[IRP_MJ_PNP] = SamplerPnp;

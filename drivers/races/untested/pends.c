@@ -3,6 +3,10 @@
    sender is preempted so that the write finds the read, and the write while the time of the read's sender is up. */
 #include <wdm.h>
 
+#if defined(RIGHT) && !defined(UNDRAINED) && !defined(LATE)
+#define CLEANS /* else another fault: the reads that are held when a handle is closed stay there */
+#endif
+
 typedef struct { PDEVICE_OBJECT Lower; KSPIN_LOCK Lock; LIST_ENTRY Reads; IO_REMOVE_LOCK RemoveLock; BOOLEAN Gone; }
     EXTENSION, *PEXTENSION;
 
@@ -31,11 +35,13 @@ static VOID CancelRead(PDEVICE_OBJECT DeviceObject, PIRP Irp)
     EndRead(ext, Irp, STATUS_CANCELLED);
 }
 
-/* Under the lock: a read whose cancel routine won't run, or NULL. */
-static PIRP TakeRead(PEXTENSION Ext)
+/* Under the lock: a read, of a file where one is given, whose cancel routine won't run; or NULL. */
+static PIRP TakeRead(PEXTENSION Ext, PFILE_OBJECT File)
 {
     for (PLIST_ENTRY e = Ext->Reads.Flink; e != &Ext->Reads; e = e->Flink) {
         PIRP irp = CONTAINING_RECORD(e, IRP, Tail.Overlay.ListEntry);
+        if (File && IoGetCurrentIrpStackLocation(irp)->FileObject != File)
+            continue;
 #ifdef RIGHT
         if (!IoSetCancelRoutine(irp, NULL))
             continue; /* its cancel routine waits for the lock */
@@ -56,7 +62,7 @@ static VOID EndReads(PEXTENSION Ext, NTSTATUS Status, BOOLEAN All)
         KIRQL irql;
         KeAcquireSpinLock(&Ext->Lock, &irql);
         Ext->Gone |= All;
-        irp = TakeRead(Ext);
+        irp = TakeRead(Ext, NULL);
         KeReleaseSpinLock(&Ext->Lock, irql);
         if (irp)
             EndRead(Ext, irp, Status);
@@ -107,6 +113,24 @@ static NTSTATUS PassDown(PDEVICE_OBJECT DeviceObject, PIRP Irp)
     return IoCallDriver(((PEXTENSION)DeviceObject->DeviceExtension)->Lower, Irp);
 }
 
+#ifdef CLEANS
+static NTSTATUS Cleanup(PDEVICE_OBJECT DeviceObject, PIRP Irp)
+{
+    PEXTENSION ext = DeviceObject->DeviceExtension;
+    PFILE_OBJECT file = IoGetCurrentIrpStackLocation(Irp)->FileObject;
+    PIRP irp;
+    do {
+        KIRQL irql;
+        KeAcquireSpinLock(&ext->Lock, &irql);
+        irp = TakeRead(ext, file);
+        KeReleaseSpinLock(&ext->Lock, irql);
+        if (irp)
+            EndRead(ext, irp, STATUS_CANCELLED);
+    } while (irp);
+    return PassDown(DeviceObject, Irp);
+}
+#endif
+
 static NTSTATUS Pnp(PDEVICE_OBJECT DeviceObject, PIRP Irp)
 {
     PEXTENSION ext = DeviceObject->DeviceExtension;
@@ -155,6 +179,9 @@ NTSTATUS DriverEntry(PDRIVER_OBJECT DriverObject, PUNICODE_STRING RegistryPath)
     DriverObject->MajorFunction[IRP_MJ_READ] = Read;
     DriverObject->MajorFunction[IRP_MJ_WRITE] = Write;
     DriverObject->MajorFunction[IRP_MJ_PNP] = Pnp;
+#ifdef CLEANS
+    DriverObject->MajorFunction[IRP_MJ_CLEANUP] = Cleanup;
+#endif
     DriverObject->DriverExtension->AddDevice = AddDevice;
     return STATUS_SUCCESS;
 }

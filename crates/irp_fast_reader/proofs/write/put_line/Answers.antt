@@ -1,19 +1,18 @@
 -- The line is the compact text and a newline. Where memory runs out nothing of it went out, and where the output fails
 -- the front that it took.
-use Rattle.std.proofs.Common.{◌≡◌, ◌<◌, ◌≤◌, ◌++◌, ◌∷◌, [], ℕ, List, length, take, subst, ap, ◌∙◌, rules, lit<}
+use Rattle.std.proofs.Common.{◌≡◌, ◌<◌, ◌≤◌, ◌++◌, ◌∷◌, [], ℕ, List, length, take, subst, ap, ◌∙◌, rules}
 use Rattle.std.specs.Io.KnownBytes.{Appends}
 use Rattle.serde_json.specs.Written.{compact_text}
 use Rattle.irp_transcript_writer.specs.Json.{line_text}
-use Rattle.irp_transcript_writer.proofs.Puts.{stopped_at, stopped_first}
-use Rattle.irp_fast_reader.proofs.Going.{begins, line_is}
+use Rattle.irp_transcript_writer.proofs.Puts.{stopped_at}
+use Rattle.irp_fast_reader.proofs.Going.{begins, line_is, stays}
 use Rattle.irp_fast_reader.proofs.write.put_line.Goals as goal
 
 pub returns-in_default-clause-puts : goal.returns-in_default-clause-puts
-returns-in_default-clause-puts g c = begins _ 0 _ _ _ (stopped_first (g.T.Written.json c.args.value.now) 0 (g.O.Out.gone c.args.out.now) (lit< tt))
+returns-in_default-clause-puts g c = stays (g.O.Out.gone c.args.out.now)
 
 pub returns-in_default-extend_from_slice-clause-puts : goal.returns-in_default-extend_from_slice-clause-puts
-returns-in_default-extend_from_slice-clause-puts g c =
-    begins _ 0 _ _ _ (stopped_first (g.T.Written.json c.args.value.now) 0 (g.O.Out.gone c.args.out.now) (lit< tt))
+returns-in_default-extend_from_slice-clause-puts g c = stays (g.O.Out.gone c.args.out.now)
 
 pub returns-in-Ok-put_all-clause-puts : goal.returns-in-Ok-put_all-clause-puts
 returns-in-Ok-put_all-clause-puts g c =
@@ -37,4 +36,5 @@ returns-in-Err-clause-puts g c =
     let bound : c.in-Err.field-0 < length text = subst (λ line. c.in-Err.field-0 < length line) same c.in-Err.ensures.short in
     let front : Appends (g.O.Out.gone c.args.out.now) (g.O.Out.gone c.put_all.new.out) (take c.in-Err.field-0 text) =
     subst (λ line. Appends (g.O.Out.gone c.args.out.now) (g.O.Out.gone c.put_all.new.out) (take c.in-Err.field-0 line)) same c.in-Err.ensures.front in
-    begins text 0 _ _ _ (stopped_at text 0 c.in-Err.field-0 _ _ bound front)
+    let short : length (compact_text form) ≤ 65536 = subst (λ (text : List ℕ). length text ≤ 65536) bare (search rules) in
+    ((search rules, short), begins text 0 _ _ _ (stopped_at text 0 c.in-Err.field-0 _ _ bound front))

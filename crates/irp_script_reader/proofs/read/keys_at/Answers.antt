@@ -11,6 +11,6 @@ pub returns-in-Two : goal.returns-in-Two
 unfolding keys_at
 returns-in-Two c = rw c.in-Two.is (tells_or c.ok_or-in-Two.ensures.value c.refused-fault.ensures c.only_keys-in-Two.ensures)
 
-pub returns-in-Three : goal.returns-in-Three
+pub returns-in-Four : goal.returns-in-Four
 unfolding keys_at
-returns-in-Three c = rw c.in-Three.is (tells_or c.ok_or-in-Three.ensures.value c.refused-fault.ensures c.only_keys-in-Three.ensures)
+returns-in-Four c = rw c.in-Four.is (tells_or c.ok_or-in-Four.ensures.value c.refused-fault.ensures c.only_keys-in-Four.ensures)

@@ -1,5 +1,6 @@
-use Rattle.std.proofs.Common.{rules, sym, ap, ◌∙◌, subst}
+use Rattle.std.proofs.Common.{◌≡◌, List, rules, sym, ap, ◌∙◌, subst}
 use Rattle.irp_types.specs.State.{Fixed}
+use Rattle.irp_types.specs.declared.entry.Entry.{Entry}
 use Rattle.irp_types.specs.Histories.{IsLegal}
 use Rattle.irp_manager.specs.Booked.{Booked}
 use Rattle.irp_shared.specs.Answered.{AnswersSo, EachAnswered}
@@ -19,6 +20,19 @@ pub returns-clause-legal : goal.returns-clause-legal
 returns-clause-legal g c =
     let kept = c.in_ok-receipt.ensures.kept in
     subst (λ (fixed : Fixed). IsLegal fixed c.call.new.self.history) (kept.1 ∙ c.args.self.now.fixed) c.in_ok-receipt.ensures.legal
+
+pub returns-in_err-receipt-clause-finds : goal.returns-in_err-receipt-clause-finds
+returns-in_err-receipt-clause-finds g c = λ is.
+    let full = (c.in_err-receipt.ensures.full).0 (search rules) in
+    let kept = c.in_err-receipt.ensures.kept in
+    let same : c.call.new.self.history ≡ c.args.self.now.book.history = ap (λ (book : Booked g.row.A.Denot). book.history) c.in_err-receipt.ensures.err.0 in
+    record {
+      history = c.args.self.now.book.history;
+      legal = subst (λ (given : Fixed × List Entry). IsLegal given.0 given.1) (λ i. ((kept.1 ∙ c.args.self.now.fixed) i, same i)) c.in_err-receipt.ensures.legal;
+      answered = c.args.self.now.answered;
+      reached = full.0;
+      full = full.1;
+    }
 
 pub invariant_of-self : goal.invariant_of-self
 invariant_of-self g c =

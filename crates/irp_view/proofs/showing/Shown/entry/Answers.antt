@@ -21,4 +21,4 @@ returns c = λ before sent is place few.
     (subst (λ (it : Bool). part_of c.args.wanted.span (before.entries ++ c.args.entry.now ∷ []) ≡ with_wanted it (part_of c.args.wanted.span before.entries) c.args.entry.now)
     c.if-not-is_wanted.false (c.is_within-is_wanted.ensures before.entries c.args.entry.now is.counted))
     (grind (arith, longer, is.counted, few)) refl)
-    c.put_chosen.ensures)
+    c.put_chosen.ensures.adds)

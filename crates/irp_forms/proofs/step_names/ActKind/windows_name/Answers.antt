@@ -1,0 +1,8 @@
+-- The row at the act's number has what the act has.
+use Rattle.std.proofs.Common.{[], get_or, ap, ◌∙◌}
+use Rattle.irp_forms.proofs.Acts.{number, windows_there}
+use Rattle.irp_forms.proofs.step_names.ActKind.windows_name.Goals as goal
+
+pub returns : goal.returns
+returns c =
+    c.row_at.ensures.windows ∙ ap (λ column. get_or column (number c.args.self) []) c.forms.ensures.windows ∙ windows_there c.args.self

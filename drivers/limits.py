@@ -1,0 +1,117 @@
+"""Tests of what the host does no more in a run: it is told as a limit, and right drivers don't meet one."""
+
+# A sum under a lock, which a deferred call reads under the same lock, and a test that writes many bytes: nothing races.
+LONG_LOOP = """#include <wdm.h>
+#include "wdm_test.h"
+#include <pthread.h>
+
+static KSPIN_LOCK lock;
+static ULONG sum, seen;
+static KTIMER timer;
+static KDPC dpc;
+
+static VOID Tick(PKDPC Dpc, PVOID Context, PVOID One, PVOID Two)
+{
+    UNREFERENCED_PARAMETER(Dpc), UNREFERENCED_PARAMETER(Context), UNREFERENCED_PARAMETER(One), UNREFERENCED_PARAMETER(Two);
+    KeAcquireSpinLockAtDpcLevel(&lock);
+    seen = sum;
+    KeReleaseSpinLockFromDpcLevel(&lock);
+}
+
+static void *write_often(void *context)
+{
+    static UCHAR bytes[3 << 19]; /* more words than the host keeps in mind, and then fewer, often */
+    for (int i = 0; i < 20; i++) {
+        KIRQL level;
+        KeAcquireSpinLock(&lock, &level);
+        for (ULONG k = 0; k < (i ? 4096 : sizeof bytes); k += 4) {
+            bytes[k]++;
+            sum += bytes[k];
+        }
+        KeReleaseSpinLock(&lock, level);
+        WdmSend(context, IRP_MJ_WRITE, 0, 4);
+    }
+    return NULL;
+}
+
+int main(void)
+{
+    pthread_t t[2];
+    LARGE_INTEGER due = { .QuadPart = -100000 };
+    PDEVICE_OBJECT bottom = WdmCreateBottom(FALSE);
+    KeInitializeSpinLock(&lock);
+    KeInitializeTimer(&timer);
+    KeInitializeDpc(&dpc, Tick, NULL);
+    KeSetTimerEx(&timer, due, 10, &dpc);
+    for (int i = 0; i < 2; i++)
+        pthread_create(&t[i], NULL, write_often, bottom);
+    for (int i = 0; i < 2; i++)
+        pthread_join(t[i], NULL);
+    KeCancelTimer(&timer);
+    KeFlushQueuedDpcs();
+    return WdmFinish();
+}
+"""
+# Threads one after the other, more than may be there at once; and with the word `devices` a device of each.
+MANY = """#include <wdm.h>
+#include "wdm_test.h"
+#include <pthread.h>
+
+static PDEVICE_OBJECT bottom;
+static BOOLEAN makes_devices;
+
+static void *send(void *context)
+{
+    PDEVICE_OBJECT own = makes_devices ? WdmCreateBottom(FALSE) : bottom;
+    WdmSend(own, IRP_MJ_READ, 0, 4);
+    if (makes_devices)
+        IoDeleteDevice(own);
+    return context;
+}
+
+int main(int argc, char **argv)
+{
+    UNREFERENCED_PARAMETER(argv);
+    bottom = WdmCreateBottom(FALSE);
+    makes_devices = argc > 1;
+    for (int i = 0; i < 70; i++) {
+        pthread_t t;
+        pthread_create(&t, NULL, send, NULL);
+        pthread_join(t, NULL);
+    }
+    return WdmFinish();
+}
+"""
+NOT_FURTHER = "not tried further: the run has as many scheduling points as --points says"
+
+
+def ran(bench, name, text, *words):
+    """Returns what `run` says of a test with this text."""
+    folder = bench.folder(name)
+    with open(folder + "/test.c", "w", encoding="utf-8") as it:
+        it.write(text)
+    return bench.ran(*words, folder + "/test.c")
+
+
+def wrong(told, status, *wanted):
+    """Returns what it doesn't say, or its other exit status, or None."""
+    missing = [it for it in wanted if it not in told.stdout]
+    if told.returncode == status and not missing:
+        return None
+    return f"status {told.returncode}, no {missing}: {told.stdout[-600:]}{told.stderr[-600:]}"
+
+
+def tests(bench):
+    """Yields names and complaints."""
+    told = ran(bench, "long loop", LONG_LOOP, "--seeds", "1..2", "--points", "5000")
+    yield "a long loop under a lock, by seeds", wrong(told, 0, "2 of 2 runs are clean")
+    told = ran(bench, "many threads", MANY, "--seeds", "1..2")
+    yield "70 threads one after the other, by seeds", wrong(told, 0, "2 of 2 runs are clean")
+    told = ran(bench, "many threads, every order", MANY, "--every-order", "--judge", "1")
+    yield "70 threads one after the other, every order", wrong(told, 0, "in any order with at most ")
+    told = ran(bench, "many devices", MANY, "--shake", "1", "--args", "devices")
+    yield "70 devices one after the other", wrong(told, 3, "not tried further: 64 devices in one run")
+    told = ran(bench, "few points", MANY, "--seeds", "1..2", "--points", "100")
+    yield "a run with too many points, by seeds", wrong(told, 3, NOT_FURTHER, "0 of 2 runs are clean, 2 reached a limit")
+    told = ran(bench, "few points, every order", MANY, "--every-order", "--judge", "1", "--points", "100")
+    yield "a run with too many points, every order", wrong(told, 3, NOT_FURTHER, "not every order was made")

@@ -1,0 +1,73 @@
+/* open_at_removal.c: a device that is open is told of its surprise removal, and gets IRP_MN_REMOVE_DEVICE only once its file
+   is closed: the test's own file is closed by then, and that of another thread is waited for. WRONG counts on the removal
+   coming first. */
+#include "filter.h"
+
+static NTSTATUS Read(PDEVICE_OBJECT DeviceObject, PIRP Irp) { return Pass(DeviceObject, Irp); }
+
+static LONG step, surprise_at, close_at, remove_at;
+static KEVENT is_open;
+
+static NTSTATUS WatchClose(PDEVICE_OBJECT DeviceObject, PIRP Irp)
+{
+    close_at = InterlockedIncrement(&step);
+    return Pass(DeviceObject, Irp);
+}
+
+static NTSTATUS WatchPnp(PDEVICE_OBJECT DeviceObject, PIRP Irp)
+{
+    const UCHAR minor = IoGetCurrentIrpStackLocation(Irp)->MinorFunction;
+    if (minor == IRP_MN_SURPRISE_REMOVAL)
+        surprise_at = InterlockedIncrement(&step);
+    if (minor == IRP_MN_REMOVE_DEVICE)
+        remove_at = InterlockedIncrement(&step);
+    return Pnp(DeviceObject, Irp);
+}
+
+static VOID OpenForAWhile(PVOID Context)
+{
+    PDEVICE_OBJECT top = Context;
+    LARGE_INTEGER moment = { .QuadPart = -300000 };
+    PFILE_OBJECT file = WdmOpenFile(top);
+    KeSetEvent(&is_open, IO_NO_INCREMENT, FALSE);
+    KeDelayExecutionThread(KernelMode, FALSE, &moment);
+    if (file)
+        WdmCloseFile(file);
+    PsTerminateSystemThread(STATUS_SUCCESS);
+}
+
+static VOID Remove(PDRIVER_OBJECT Driver, BOOLEAN ByAnother)
+{
+    PDEVICE_OBJECT pdo = WdmCreateBottom(FALSE);
+    HANDLE thread = NULL;
+    step = surprise_at = close_at = remove_at = 0;
+    WdmAddDevice(Driver, pdo);
+    WdmPlugIn(pdo);
+    KeInitializeEvent(&is_open, NotificationEvent, FALSE);
+    if (ByAnother) {
+        PsCreateSystemThread(&thread, THREAD_ALL_ACCESS, NULL, NULL, NULL, OpenForAWhile, IoGetAttachedDevice(pdo));
+        KeWaitForSingleObject(&is_open, Executive, KernelMode, FALSE, NULL);
+    } else
+        WDM_CHECK(WdmOpenFile(IoGetAttachedDevice(pdo)) != NULL && pdo->ReferenceCount == 1);
+    WdmUnplug(pdo, TRUE);
+#ifdef WRONG
+    WDM_CHECK(surprise_at == 1 && remove_at == 2 && close_at == 3);
+#else
+    WDM_CHECK(surprise_at == 1 && close_at == 2 && remove_at == 3);
+#endif
+    if (thread) {
+        ZwWaitForSingleObject(thread, FALSE, NULL);
+        ZwClose(thread);
+    }
+    IoDeleteDevice(pdo);
+}
+
+int main(void)
+{
+    PDRIVER_OBJECT driver = WdmLoadDriver("filter", FilterEntry);
+    driver->MajorFunction[IRP_MJ_CLOSE] = WatchClose;
+    driver->MajorFunction[IRP_MJ_PNP] = WatchPnp;
+    Remove(driver, FALSE);
+    Remove(driver, TRUE);
+    return WdmFinish();
+}

@@ -1,0 +1,151 @@
+/* steps.c: the steps of a script, each by the manager's own call. */
+#include "state.h"
+
+PLAY_STATE play;
+
+/* The script's SetNext clears a routine that was set before. Zeroing the location by hand isn't seen by the recorder,
+   so no routine is set first. */
+static VOID set_next(PIRP irp, const PLAY_STEP *s)
+{
+    PIO_STACK_LOCATION next = IoGetNextIrpStackLocation(irp);
+    const ULONG word[2] = { (ULONG)s->C, (ULONG)(s->C >> 32) };
+    IoSetCompletionRoutine(irp, NULL, NULL, FALSE, FALSE, FALSE);
+    RtlZeroMemory(next, sizeof *next);
+    next->MajorFunction = (UCHAR)s->B;
+    RtlCopyMemory(&next->Parameters, word, sizeof word);
+}
+
+/* The cancel routine by its number and 1; 0 for none. */
+static uint64_t number_of_cancel(PDRIVER_CANCEL fn)
+{
+    for (unsigned i = 0; fn && i < PLAY_MANY; i++)
+        if (PlayCancels[i] == fn)
+            return i + 1;
+    return fn ? PLAY_MANY + 1 : 0;
+}
+
+static BOOLEAN create(uint64_t driver, uint64_t *reply)
+{
+    if (driver >= play.nDrivers || play.nDevices == PLAY_DEVICES)
+        return FALSE;
+    PDEVICE_OBJECT made = PlayCreateDevice(play.Drivers[driver], sizeof(PLAY_EXTENSION));
+    play.Devices[play.nDevices] = made;
+    if (!made)
+        return FALSE;
+    PlayExtension(made)->Number = (LONG)play.nDevices;
+    *reply = play.nDevices++;
+    return TRUE;
+}
+
+static BOOLEAN attach(PDEVICE_OBJECT device, PDEVICE_OBJECT to, uint64_t *reply)
+{
+    PDEVICE_OBJECT lower = IoAttachDeviceToDeviceStack(device, to);
+    if (!lower)
+        return FALSE;
+    PlayExtension(device)->Lower = lower;
+    *reply = (uint64_t)PlayExtension(lower)->Number;
+    play.Above[*reply] = device;
+    return TRUE;
+}
+
+static VOID detach(uint64_t lower, uint64_t *reply)
+{
+    *reply = (uint64_t)PlayExtension(play.Above[lower])->Number;
+    PlayExtension(play.Above[lower])->Lower = NULL;
+    play.Above[lower] = NULL;
+    IoDetachDevice(play.Devices[lower]);
+}
+
+static BOOLEAN on_devices(const PLAY_STEP *s, uint64_t *reply)
+{
+    PDEVICE_OBJECT device;
+    switch (s->Do) {
+    case DO_CREATE:
+        return create(s->A, reply);
+    case DO_ATTACH:
+        return attach(play.Devices[s->A], play.Devices[s->B], reply);
+    case DO_DETACH:
+        detach(s->A, reply);
+        return TRUE;
+    default:
+        device = play.Devices[s->A];
+        play.Devices[s->A] = NULL;
+        IoDeleteDevice(device);
+        return TRUE;
+    }
+}
+
+static BOOLEAN allocate(PLAY_PACKET *p, const PLAY_STEP *s)
+{
+    p->Irp = IoAllocateIrp((CCHAR)s->B, FALSE);
+    PlayNumberPacket(p->Irp, s->A);
+    p->Owner = PLAY_ORIGINATOR;
+    return p->Irp != NULL;
+}
+
+static VOID send(PLAY_PACKET *p, const PLAY_STEP *s, uint64_t *reply)
+{
+    p->Owner = PLAY_MOVES;
+    *reply = (ULONG)IoCallDriver(play.Devices[s->B], p->Irp);
+    if (p->Owner == PLAY_MOVES)
+        p->Irp = NULL; /* the manager has finished it itself, and freed it */
+}
+
+static BOOLEAN on_packets(const PLAY_STEP *s, uint64_t *reply)
+{
+    PLAY_PACKET *p = &play.Packets[s->A];
+    PIRP irp = p->Irp;
+    const PLAY_SETTING set = { s->B, s->C, s->D };
+    switch (s->Do) {
+    case DO_ALLOCATE: return allocate(p, s);
+    case DO_FREE: p->Irp = NULL; IoFreeIrp(irp); break;
+    case DO_REUSE: IoReuseIrp(irp, (NTSTATUS)s->B); PlayNumberPacket(irp, s->A); break;
+    case DO_SET_NEXT: set_next(irp, s); break;
+    case DO_COPY: IoCopyCurrentIrpStackLocationToNext(irp); break;
+    case DO_SKIP: IoSkipCurrentIrpStackLocation(irp); break;
+    case DO_SET_ROUTINE: PlaySetRoutine(irp, &set); break;
+    case DO_MARK: IoMarkIrpPending(irp); break;
+    case DO_CALL: send(p, s, reply); break;
+    case DO_COMPLETE: PlayFinish(irp, (NTSTATUS)s->B, (ULONG_PTR)s->C); break;
+    case DO_SET_CANCEL:
+        *reply = number_of_cancel(IoSetCancelRoutine(irp, s->B ? PlayCancels[s->B - 1] : NULL));
+        break;
+    default: *reply = IoCancelIrp(irp); break;
+    }
+    return TRUE;
+}
+
+static BOOLEAN is_packet_there(const PLAY_STEP *s)
+{
+    if (s->A >= play.nPackets)
+        return FALSE;
+    const PLAY_PACKET *p = &play.Packets[s->A];
+    if (s->Do == DO_ALLOCATE)
+        return !p->Irp;
+    return p->Irp && (s->By == 0 || p->Owner == (LONG)s->By - 2) &&
+        (s->Do != DO_CALL || (s->B < play.nDevices && play.Devices[s->B]));
+}
+
+BOOLEAN PlayIsThere(const PLAY_STEP *Step)
+{
+    const PLAY_STEP *s = Step;
+    switch (s->Do) {
+    case DO_CREATE: return TRUE;
+    case DO_ATTACH: return s->A < play.nDevices && s->B < play.nDevices && play.Devices[s->A] && play.Devices[s->B];
+    case DO_DETACH: return s->A < play.nDevices && play.Devices[s->A] && play.Above[s->A];
+    case DO_DELETE: return s->A < play.nDevices && play.Devices[s->A] != NULL;
+    case DO_ACQUIRE: case DO_RELEASE: case DO_BEGIN_REMOVE: case DO_DRAINED: return s->A < play.nLocks;
+    default: return is_packet_there(s);
+    }
+}
+
+PLAY_END PlayStep(const PLAY_STEP *Step, uint64_t *Reply)
+{
+    if (!PlayIsThere(Step))
+        return PLAY_PARTED;
+    if (Step->Do <= DO_DELETE)
+        return on_devices(Step, Reply) ? PLAY_DONE : PLAY_NO_DEVICE;
+    if (Step->Do >= DO_ACQUIRE)
+        return PlayOnLocks(Step, Reply) ? PLAY_DONE : PLAY_PARTED;
+    return on_packets(Step, Reply) ? PLAY_DONE : PLAY_PARTED;
+}
