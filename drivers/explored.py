@@ -312,7 +312,9 @@ def test_untested(run, bench):
     well = report.facts["ended"] == "failed" and report.facts["cost"] == "2" and "CompletedTwice" in report.facts["why"]
     yield "the host's own test under every order finds a fault", None if well else str(report.facts)
     said = made.followed(report.facts["schedule"], "told").said if well else ""
-    wanted = "; IoSetCancelRoutine at pends.c:43 returned NULL: CancelRead had begun", ", to the fault\n"
+    with open(source, encoding="utf-8") as it:
+        line = next(at for at, text in enumerate(it, 1) if "the fault: what it returns" in text)
+    wanted = f"; IoSetCancelRoutine at pends.c:{line} returned NULL: CancelRead had begun", ", to the fault\n"
     missing = [it for it in wanted if it not in said]
     yield "its schedule goes to the fault, which names the cancel routine that had begun", f"no {missing}: {said}" if missing \
         else None

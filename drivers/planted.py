@@ -445,7 +445,7 @@ HOSTILE = {
     "leaves_its_packets": ["FAULT PacketLeak (0xC4/0x62): leaves_its_packets.c:20 in Read: IoAllocateIrp"],
     "leaves_a_link": ["FAULT LeftBehind: leaves_a_link.c:9 in DriverEntry: IoCreateSymbolicLink"],
     "polls": ["FAULT CancelledAndHeld", "FAULT Hang", "while other threads go on; IRP 1.2 (READ), which D0 (polls) holds",
-              "it waits in KeDelayExecutionThread at polls.c:8"],
+              "KeDelayExecutionThread at polls.c:8"],  # it waits there, or has just gone on: its last call
     "arms_again": ["FAULT Hang: arms_again.c:18 in Read", "while other threads go on; IRP 1.2 (READ), which is in Read",
                    "thread 0 holds a mutex since arms_again.c:17"],
     "takes_two_mutexes": ["LockOrder", "FAULT Hang: takes_two_mutexes.c:12", "takes_two_mutexes.c:12 for a mutex that thread",
