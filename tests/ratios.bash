@@ -38,13 +38,26 @@ chmod +x "$room/bench"
 CARGO=$room/none run --quick locks calls
 meets 'no cargo: status' [ "$status" -eq 0 ]
 meets 'no cargo: it is told' grep -q 'there is no cargo' "$room/errors"
-meets 'no cargo: a lock' has '| acquire and release, 1 / 4 threads | 5,000,000 / - | | |'
-meets 'no cargo: a send' has '| a send through 1 / 4 / 16 / 32 devices, not recorded | - / 286 / - / - | | |'
-meets 'no cargo: a recorded send' has '| the same, recorded | - / 1,055 / - / - | | |'
+meets 'no cargo: a lock' has '| acquire and release, 1 / 4 threads | 5,000,000 / - | | | |'
+meets 'no cargo: a send' has '| a send through 1 / 4 / 16 / 32 devices, not recorded | - / 286 / - / - | | | 1.1 / 1.1 / 1.0 / 1.0 |'
+meets 'no cargo: a recorded send' has '| the same, recorded | - / 1,055 / - / - | | | |'
 CARGO=$room/none run --quick read
 meets 'no time: status' [ "$status" -eq 1 ]
 CARGO=$room/none run --quick slots
 meets 'a program that fails: status' [ "$status" -eq 1 ]
+
+# Another clone whose programs took less: by a tenth and more for a send, which two rows have, by less than that for a
+# recorded one.
+mkdir -p "$room/clone/crates/irp_bench/out"
+sed 's/286\.4/250.0/; s/1055\.2/1000.0/' "$room/bench" >"$room/clone/crates/irp_bench/out/irp_bench"
+chmod +x "$room/clone/crates/irp_bench/out/irp_bench"
+CARGO=$room/none run --quick --before "$room/clone" calls
+meets 'slower than before: status' [ "$status" -eq 3 ]
+meets 'slower than before: a send' has '| 1.1 / 1.1 / 1.0 / 1.0 | - / 1.15 slower / - / - |'
+meets 'as before: a recorded send' has '| - / 1,055 / - / - | | | | - / 1.06 / - / - |'
+meets 'slower than before: told' grep -q '2 rows are slower than before by more than a tenth' "$room/errors"
+CARGO=$room/none run --quick --before "$room/none" calls
+meets 'no programs before: status' [ "$status" -eq 1 ]
 run --quick sends
 meets 'another word: status' [ "$status" -eq 2 ]
 
@@ -56,9 +69,9 @@ if command -v cargo >/dev/null; then
     meets 'rows' [ "$(grep -c '^| ' "$room/output")" -eq 15 ]
     # A pair of plain Rust takes less than a hundredth of what the stand-in tells, and more than none.
     times='[0-9.,]+( / [0-9.,]+)*'
-    row="\| acquire and release, 1 / 4 threads \| 5,000,000 / - \| $times \| [0-9]{3,}\.[0-9] / - \|"
+    row="\| acquire and release, 1 / 4 threads \| 5,000,000 / - \| $times \| [0-9]{3,}\.[0-9] / - \| \|"
     meets 'a lock' grep -qxE "$row" "$room/output"
-    row="\| \`irpx check\` of [0-9]+ MB, [0-9/ ]+ processors, in ms \| $times \| $times \| $times \|"
+    row="\| \`irpx check\` of [0-9]+ MB, [0-9/ ]+ processors, in ms \| $times \| $times \| $times \| 1\.0( / -)+ \|"
     meets 'both judge a file' grep -qxE "$row" "$room/output"
 else
     echo 'passed over, for want of cargo: the same work in plain Rust'
