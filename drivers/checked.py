@@ -202,7 +202,7 @@ def notes(bench):
 
 def right_hostile(bench):
     """Drivers of hostile/ without what is wrong with them are clean."""
-    for name in "stays_away", "leaves_its_packets", "frees_a_locked_mdl":
+    for name in "stays_away", "leaves_its_packets", "frees_a_locked_mdl", "leaves_by_longjmp", "forgets_after_paging":
         said, status = ran(bench, "--cflag=-DRIGHT", f"{HERE}/hostile/{name}.c")
         yield f"the right counterpart of {name}", said[-500:] if status else None
 

@@ -52,7 +52,7 @@ int main(void)
     return WdmFinish();
 }
 """
-# Threads one after the other, more than may be there at once; and with the word `devices` a device of each.
+# Threads one after the other, more than may be there at once; with the word `at_once` they are; with `devices` each has one.
 MANY = """#include <wdm.h>
 #include "wdm_test.h"
 #include <pthread.h>
@@ -71,14 +71,17 @@ static void *send(void *context)
 
 int main(int argc, char **argv)
 {
-    UNREFERENCED_PARAMETER(argv);
+    pthread_t t[70];
+    const BOOLEAN at_once = argc > 1 && !strcmp(argv[1], "at_once");
     bottom = WdmCreateBottom(FALSE);
-    makes_devices = argc > 1;
+    makes_devices = argc > 1 && !at_once;
     for (int i = 0; i < 70; i++) {
-        pthread_t t;
-        pthread_create(&t, NULL, send, NULL);
-        pthread_join(t, NULL);
+        pthread_create(&t[i], NULL, send, NULL);
+        if (!at_once)
+            pthread_join(t[i], NULL);
     }
+    for (int i = 0; at_once && i < 70; i++)
+        pthread_join(t[i], NULL);
     return WdmFinish();
 }
 """
@@ -109,6 +112,8 @@ def tests(bench):
     yield "70 threads one after the other, by seeds", wrong(told, 0, "2 of 2 runs are clean")
     told = ran(bench, "many threads, every order", MANY, "--every-order", "--judge", "1")
     yield "70 threads one after the other, every order", wrong(told, 0, "in any order with at most ")
+    told = ran(bench, "threads at once", MANY, "--shake", "1", "--args", "at_once")
+    yield "70 threads at once", wrong(told, 3, "not tried further: more than 32 threads at once under a schedule: let its test begin")
     told = ran(bench, "many devices", MANY, "--shake", "1", "--args", "devices")
     yield "70 devices one after the other", wrong(told, 3, "not tried further: 64 devices in one run")
     told = ran(bench, "few points", MANY, "--seeds", "1..2", "--points", "100")

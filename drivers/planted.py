@@ -4,6 +4,8 @@
 that is named. `verdict` is the word of `irpx check`; `refused` a refusal that the transcript has. A race is tried with
 eight seeds, until one shows it."""
 
+import os
+
 SAMPLES, STACKS, SHAPES = "samples", "stacks", "shapes"
 
 
@@ -391,10 +393,19 @@ RIGHT_SHAPES = """
 FOR_OWN_TEST = ["handover", "keyboard", "children", "policy", "power", "removal", "split", "serial", "shared", "late",
                 "settings", "reserve"]
 
-# Drivers of hostile/ that the host stops after ten times its patience, so they have more seconds than others.
-SLOW_TO_STOP = {"polls": 40, "arms_again": 40}
+# Drivers of hostile/ that the host stops after ten times its patience, or that have a whole test: they have more seconds.
+SLOW_TO_STOP = {"polls": 40, "arms_again": 40, "spins": 60, "forgets_after_paging": 60}
 # The drivers of hostile/: what is told of each, beside the transcript. Each ends within its bound, and none is clean.
 STOPPED = "STOPPED: "
+
+
+def at(name, text):
+    """Returns the place of the only line of a driver of hostile/ that has this text."""
+    with open(f"{os.path.dirname(os.path.abspath(__file__))}/hostile/{name}.c", encoding="utf-8") as it:
+        (number,) = [n for n, line in enumerate(it, 1) if text in line]
+    return f"{name}.c:{number}"
+
+
 HOSTILE = {
     "touches_null": [STOPPED + "it touches what is no memory at address 0x10",
                      "at touches_null.c:6 in Helper, called at touches_null.c:10 in Read"],
@@ -450,5 +461,19 @@ HOSTILE = {
                    "thread 0 holds a mutex since arms_again.c:17"],
     "takes_two_mutexes": ["LockOrder", "FAULT Hang: takes_two_mutexes.c:12", "takes_two_mutexes.c:12 for a mutex that thread",
                           "thread 1 holds a mutex since takes_two_mutexes.c:9"],
+    "leaves_by_longjmp": [STOPPED + "Read, dispatch for READ of D0 (leaves_by_longjmp) is left by longjmp, at "
+                          + at("leaves_by_longjmp", "longjmp(outside, 1)") + " in Deeper, called at "
+                          + at("leaves_by_longjmp", "Deeper(Irp);") + " in Read"],
+    "exits_in_unload": [STOPPED + "the program ends before WdmFinish, at " + at("exits_in_unload", "exit(0)") + " in Leave"],
+    "stops_itself": [STOPPED + "a signal has stopped it (SIGSTOP or the like), at " + at("stops_itself", "raise(SIGSTOP)")
+                     + " in Read; in Read, dispatch for READ of D0 (stops_itself)"],
+    "ignores_crashes": [STOPPED + "it touches what is no memory at address 0, at " + at("ignores_crashes", "*nothing = 1")],
+    "forks": [STOPPED + "a driver forks, and a second process would go on with the run, at " + at("forks", "fork();") + " in Read"],
+    # On a machine that has no processor for it, its time is over before it counts as a hang.
+    "spins": [" in Spin", " runs on", "KeWaitForSingleObject at " + at("spins", "KeWaitForSingleObject"),
+              "IRP 1.2 (READ), which is in Read"],
+    "forgets_after_paging": ["FAULT NotDrained", "2 held: tag ", "in Pnp (dispatch for PNP), left by Pnp after IoCallDriver at "
+                             + at("forgets_after_paging", "return IoCallDriver(Ext->Lower, Irp);"),
+                             ", and by forgets_after_paging.c:", " in UsageDone"],
     "uses_no_packet": [STOPPED + "a pointer that is no packet", "at uses_no_packet.c:7"],
 }

@@ -212,6 +212,34 @@ def seldom(bench):
     yield "and says which pieces it made", NO_COMPLAINT if well else said[-900:]
 
 
+def place_in(source, text):
+    """Returns the place of the only line of a file that has this text."""
+    with open(source, encoding="utf-8") as it:
+        (number,) = [n for n, line in enumerate(it, 1) if text in line]
+    return f"{os.path.basename(source)}:{number}"
+
+
+def asleep(bench):
+    """A timer that goes off while its device has no power gets a note, which is no fault; one that is cancelled gets none."""
+    source = HERE + "/untested/ticks.c"
+    said, status = run(bench, source)
+    told = f"note, a timer in D3: the timer that was set at {place_in(source, 'KeSetTimerEx(')} goes off while D" in said
+    yield "a timer that goes off without power", NO_COMPLAINT if told and not status else f"status {status}: {said[-900:]}"
+    said, status = run(bench, "--cflag=-DRIGHT", source)
+    yield "and one that is cancelled before", NO_COMPLAINT if not status and "a timer in D3" not in said else said[-900:]
+
+
+def own_packet(bench):
+    """A driver's own packet that is freed at the removal is on its way then where the device below takes its time."""
+    source = HERE + "/untested/beats.c"
+    for name, words, is_told in (("at once below", [], False), ("pended below", ["--pend", "1"], True),
+                                 ("pended below, and waited for", ["--pend", "1", "--cflag=-DRIGHT"], False)):
+        said, status = run(bench, *words, source)
+        told = re.search(rf"FAULT InFlight .*{re.escape(place_in(source, 'told: InFlight'))} in Pnp.*IoFreeIrp", said)
+        well = bool(told) == is_told and status == is_told
+        yield f"an own packet at the removal, {name}", NO_COMPLAINT if well else f"status {status}: {said[-900:]}"
+
+
 def with_its_flag(bench):
     """Gives a complaint where a driver that sets DO_BUFFERED_IO has no system buffer. Without it hostile/ tells that."""
     said, status = run(bench, "--cflag=-DRIGHT", HERE + "/hostile/has_no_buffer.c")
@@ -223,6 +251,7 @@ def tests(bench):
     return [("own test, mistakes", lambda: mistakes(bench)), ("own test, situations", lambda: situations(bench)), ("own test, samples", lambda: samples(bench)),
             ("own test, held at removal", lambda: held_at_removal(bench)),
             ("own test, a named file", lambda: named_file(bench)), ("own test, seldom", lambda: seldom(bench)),
+            ("own test, asleep", lambda: asleep(bench)), ("own test, an own packet", lambda: own_packet(bench)),
             ("own test, a buffer's flag", lambda: with_its_flag(bench)),
             ("own test, children", lambda: children(bench)),
             *((f"own test, stack {it}", lambda it=it: silent(bench, it)) for it in planted.FOR_OWN_TEST)]

@@ -6,9 +6,14 @@
 #include <wdm.h>
 #include "host.h"
 
-enum { MOMENT = 5 }; /* milliseconds */
+enum { MOMENT = 5, MOST_MOMENTS = 200 }; /* milliseconds; and how many of them */
 typedef struct { PDEVICE_OBJECT Self, Lower; } BETWEEN, *PBETWEEN;
-typedef struct { PIO_WORKITEM Item; PIRP Irp; } LATE, *PLATE;
+typedef struct { PIO_WORKITEM Item; PIRP Irp; BOOLEAN IsOwn; } LATE, *PLATE;
+
+static _Atomic bool keeps_own;
+
+/* What drivers have allocated is kept from now on until it is cancelled, but not for long; or it isn't any more. */
+void keep_own_packets(BOOLEAN keeps) { keeps_own = keeps; }
 
 /* By then the driver above has most likely gone on behind IoCallDriver: to where it waits, or to its return. */
 static VOID CompleteLate(PDEVICE_OBJECT DeviceObject, PVOID Context)
@@ -17,6 +22,8 @@ static VOID CompleteLate(PDEVICE_OBJECT DeviceObject, PVOID Context)
     LARGE_INTEGER moment = { .QuadPart = -10 * 1000 * MOMENT };
     UNREFERENCED_PARAMETER(DeviceObject);
     KeDelayExecutionThread(KernelMode, FALSE, &moment);
+    for (int i = 0; late->IsOwn && keeps_own && !late->Irp->Cancel && i < MOST_MOMENTS; i++)
+        KeDelayExecutionThread(KernelMode, FALSE, &moment);
     IoFreeWorkItem(late->Item);
     IoCompleteRequest(late->Irp, IO_NO_INCREMENT);
     free(late);
@@ -43,6 +50,7 @@ static NTSTATUS Pend(PDEVICE_OBJECT DeviceObject, PIRP Irp)
         IoSkipCurrentIrpStackLocation(Irp);
         return IoCallDriver(ext->Lower, Irp);
     }
+    late->IsOwn = is_drivers_own(Irp);
     IoMarkIrpPending(Irp);
     IoCopyCurrentIrpStackLocationToNext(Irp);
     IoSetCompletionRoutine(Irp, LowerIsDone, late, TRUE, TRUE, TRUE);

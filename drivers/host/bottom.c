@@ -125,7 +125,7 @@ static NTSTATUS Pnp(PDEVICE_OBJECT DeviceObject, PIRP Irp)
     PBOTTOM ext = DeviceObject->DeviceExtension;
     const UCHAR minor = IoGetCurrentIrpStackLocation(Irp)->MinorFunction;
     const BOOLEAN done = minor <= IRP_MN_CANCEL_STOP_DEVICE || minor == IRP_MN_QUERY_CAPABILITIES ||
-        minor == IRP_MN_SURPRISE_REMOVAL;
+        minor == IRP_MN_SURPRISE_REMOVAL || minor == IRP_MN_DEVICE_USAGE_NOTIFICATION;
     const BOOLEAN fails = (ext->Style & WDM_BOTTOM_NO_START) && minor == IRP_MN_START_DEVICE;
     if (minor == IRP_MN_REMOVE_DEVICE && at_removal)
         at_removal();

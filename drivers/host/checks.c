@@ -42,6 +42,8 @@ static const Check checks[] = {
       "copy what is needed before IoCallDriver, or use it in the completion routine" },
     { "RemoveFailed", "rule PnpRemove", "Rules for Handling Plug and Play IRPs", "succeed, and pass it down" },
     { "PnpStatusChanged", "0xC9", "Rules for Handling Plug and Play IRPs", "leave the status of what isn't handled" },
+    { "StatusNotSet", "no stop code", "Handling an IRP_MN_SURPRISE_REMOVAL Request",
+      "set Irp->IoStatus.Status to STATUS_SUCCESS before it is passed down" },
     { "NotPassedDown", "0xC9", "Rules for Handling Plug and Play IRPs", "pass it down, whatever is done with it here" },
     { "MutexKept", "0x4000008A", "Introduction to Mutex Objects", "release it on each way out" },
     { "UsedInFreedMemory", "0xCC", "Special Pool", "free the memory, or delete the device, once nobody uses it" },

@@ -103,6 +103,14 @@ bool is_code_of_holder(const Packet *p, const void *at);
 void check_completion(const Packet *p, int by, ULONG status, uint64_t information);
 void check_dispatch_there(const Packet *p, int d, UCHAR major);
 void check_sending(const Packet *p, int by);
+void remember_act(const char *call);
+
+/* timers_asleep.c */
+void forget_asleep(const KTIMER *timer);
+void power_comes(const IO_STACK_LOCATION *l, int device);
+void power_goes(const IO_STACK_LOCATION *l, int device);
+void tell_asleep(const KTIMER *t);
+bool is_reported_off(int device); /* power_manager.c */
 
 /* low_memory.c */
 extern int n_allocations;
@@ -119,6 +127,7 @@ bool is_between(PDEVICE_OBJECT device);
 int count_attached(void);
 void put_between(PDEVICE_OBJECT target, WDM_SITE at);
 void take_from_between(PDEVICE_OBJECT device);
+bool is_drivers_own(PIRP irp); /* own_packets.c */
 
 /* cancel_at.c: a request that is cancelled at a call of a driver. */
 void request_sent(Packet *p);

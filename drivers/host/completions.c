@@ -128,6 +128,30 @@ void check_completion(const Packet *p, int by, ULONG status, uint64_t informatio
         check_power(p, l, by, status);
 }
 
+/* The dispatch that runs makes a call that takes back what its device uses: it handles its request. Under G. */
+void remember_act(const char *call)
+{
+    static const char *const acts[] = { "KeCancelTimer", "KeFlushQueuedDpcs", "KeRemoveQueueDpc", "IoCompleteRequest", "IoCancelIrp",
+                                        "IoSetDeviceInterfaceState", "IoDisconnectInterrupt", "IoFreeIrp", "IoFreeWorkItem",
+                                        "IoUnregisterPlugPlayNotification", "IoDeleteSymbolicLink" };
+    Frame *f = self.frames;
+    if (!f || f->kind != DISPATCH || f->major != IRP_MJ_PNP || f->sent)
+        return;
+    for (size_t i = 0; i < ARRAYSIZE(acts); i++)
+        if (!strcmp(acts[i], call))
+            f->acted = acts[i];
+}
+
+/* A request that a driver may not fail, and handles, has its success when it goes down: no routine is there to set it. */
+static void check_handled(const Packet *p, const Frame *f, UCHAR minor, ULONG status)
+{
+    const bool is_told_so = minor == IRP_MN_SURPRISE_REMOVAL || minor == IRP_MN_STOP_DEVICE || minor == IRP_MN_REMOVE_DEVICE;
+    if (is_told_so && f->acted && p->asking == f && status == (ULONG)STATUS_NOT_SUPPORTED && (p->skipped || !p->want))
+        broken("StatusNotSet", p, "%s calls %s for IRP_MN_%s, and passes it down with STATUS_NOT_SUPPORTED, with which it came",
+               function_name(f->fn), f->acted, minor == IRP_MN_STOP_DEVICE ? "STOP_DEVICE" :
+               minor == IRP_MN_REMOVE_DEVICE ? "REMOVE_DEVICE" : "SURPRISE_REMOVAL");
+}
+
 /* A dispatch passes the packet down. */
 void check_sending(const Packet *p, int by)
 {
@@ -136,10 +160,13 @@ void check_sending(const Packet *p, int by)
         f = f->up;
     if (f)
         f->sent = true;
+    if (f && f->major == IRP_MJ_POWER && on_top(p) == f)
+        power_goes(raw_at((Packet *)p, p->current), by);
     if (!f || f->major != IRP_MJ_PNP || on_top(p) != f)
         return;
     const UCHAR minor = raw_at((Packet *)p, p->current)->MinorFunction;
     const ULONG status = (ULONG)p->irp->IoStatus.Status, came = p->at[p->current].came;
+    check_handled(p, f, minor, status);
     if (!is_unknown(minor) && p->asking == f && status != came && !NT_SUCCESS(status) &&
         status != (ULONG)STATUS_NOT_SUPPORTED)
         broken("PnpStatusChanged", p, "minor %#x came with %#x, and is passed down with the failure %#x", minor, came,

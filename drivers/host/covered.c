@@ -29,7 +29,7 @@ static Covered *covered;
 #define ROW_WORDS(name, words, needs) { words, needs },
 static const struct { const char *words; Needs needs; } table[] = { SITUATIONS(ROW_WORDS) };
 
-/* Before orders are explored, which begins before `main` too. */
+/* Before orders are explored, which begins before `main` too. Where there is no memory for it, nothing is counted. */
 __attribute__((constructor(101))) static void share_covered(void)
 {
     void *memory = mmap(NULL, sizeof *covered, PROT_READ | PROT_WRITE, MAP_SHARED | MAP_ANONYMOUS | MAP_NORESERVE, -1, 0);
@@ -46,9 +46,8 @@ static Function *function_in(Function *functions, const void *fn)
     return NULL;
 }
 
-static void keep(Function *functions, const void *fn, bool is_done)
+static void keep(Function *f, bool is_done)
 {
-    Function *f = function_in(functions, fn);
     if (f && is_done)
         f->is_done = true;
 }
@@ -59,12 +58,21 @@ void function_ran(const void *fn)
         function_in(covered->ran, fn);
 }
 
-void routine_was_called(const void *fn, bool with_error) { keep(covered->routines, fn, with_error); }
-void cancel_routine_set(const void *fn, bool is_called) { keep(covered->cancels, fn, is_called); }
+void routine_was_called(const void *fn, bool with_error)
+{
+    if (covered)
+        keep(function_in(covered->routines, fn), with_error);
+}
+
+void cancel_routine_set(const void *fn, bool is_called)
+{
+    if (covered)
+        keep(function_in(covered->cancels, fn), is_called);
+}
 
 void request_came(int driver, UCHAR major, UCHAR minor)
 {
-    if (driver < 0 || major >= MAJORS)
+    if (!covered || driver < 0 || major >= MAJORS)
         return;
     covered->came[driver][major] = true;
     covered->minors[major][minor] = true;
@@ -73,7 +81,7 @@ void request_came(int driver, UCHAR major, UCHAR minor)
 /* At the end of a run: the dispatches that drivers have then. */
 void learn_dispatches(void)
 {
-    for (int d = 0; d < n_drivers; d++)
+    for (int d = 0; covered && d < n_drivers; d++)
         for (int m = 0; m < MAJORS; m++)
             covered->dispatches[d][m] = (const void *)drivers[d]->MajorFunction[m];
 }
@@ -81,6 +89,8 @@ void learn_dispatches(void)
 void begin_situations(int has_stack, int may_hold)
 {
     static const char no_stack[] = "no driver has AddDevice", holds_none[] = "no driver calls IoMarkIrpPending";
+    if (!covered)
+        return;
     covered->counts_situations = true;
     for (int i = 0; i < N_SITUATIONS; i++) {
         const Needs needs = table[i].needs;
@@ -92,6 +102,8 @@ void begin_situations(int has_stack, int may_hold)
 
 static void set(Situation s, State state, const char *why)
 {
+    if (!covered)
+        return;
     Row *r = &covered->rows[s];
     if (state == IS_MADE || (!r->is_out && r->state <= state))
         *r = (Row){ state, why, r->is_out };
@@ -109,11 +121,17 @@ void made_if(Situation s, int is, const char *why)
         not_made(s, why);
 }
 
-void piece_not_there(const char *why) { covered->piece_is_out = why; }
+void piece_not_there(const char *why)
+{
+    if (covered)
+        covered->piece_is_out = why;
+}
 
 void control_sent(unsigned code, int is_taken)
 {
     int i = 0;
+    if (!covered)
+        return;
     while (i < covered->n_codes && covered->codes[i].code != code)
         i++;
     if (i == MOST_CODES)

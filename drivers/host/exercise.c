@@ -153,6 +153,14 @@ static void use_children(void)
         not_there(SITUATION_CHILDREN, "no driver reports children");
 }
 
+/* A paging file that the device doesn't take doesn't go either. */
+static void use_for_paging(PDEVICE_OBJECT top)
+{
+    if (NT_SUCCESS(notify_usage(top, TRUE)))
+        notify_usage(top, FALSE);
+    made(SITUATION_PAGING);
+}
+
 static void use_started(ULONG style, int threads)
 {
     PDEVICE_OBJECT top = IoGetAttachedDevice(bottom);
@@ -160,6 +168,8 @@ static void use_started(ULONG style, int threads)
     made(SITUATION_UNKNOWN_PNP);
     WdmSend(top, IRP_MJ_SYSTEM_CONTROL, IRP_MN_REGINFO, 0);
     made(SITUATION_WMI);
+    if (!style && !is_short)
+        use_for_paging(top);
     set_power(top, IRP_MN_SET_POWER, PowerDeviceD0);
     Opened o = use(top, !style);
     use_children();

@@ -124,7 +124,7 @@ static Ended run_round(int bound)
 {
     begin_round(bound);
     fflush(NULL);
-    const pid_t child = fork();
+    const pid_t child = fork_run();
     if (child < 0) {
         perror("explore: fork");
         _exit(2);

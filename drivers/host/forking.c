@@ -85,7 +85,7 @@ static void begin_process(bool beside, int cost)
 static bool fork_for(Deviation last, int cost)
 {
     const bool beside = n_children < MOST_CHILDREN && take_turn();
-    const pid_t pid = fork();
+    const pid_t pid = fork_run();
     if (!pid) {
         begin_process(beside, cost);
         return true;
@@ -144,7 +144,7 @@ void share_out(void)
     if (helpers->n == MOST_CHILDREN || !take_turn())
         return;
     shared->n_begun++;
-    const pid_t pid = fork();
+    const pid_t pid = fork_run();
     if (!pid)
         take_eldest();
     if (pid < 0) { /* then this one makes it */

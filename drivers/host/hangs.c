@@ -183,11 +183,28 @@ bool stands_still_since(unsigned long began)
     return false;
 }
 
+/* A thread that runs on in a driver's code, and what waits for it: told by its loop. */
+static bool tell_loop(WDM_SITE at, const char *in_flight)
+{
+    char where[600];
+    const void *const loop = loop_of_others(where, sizeof where);
+    Call *const calls = self.calls, here = { .name = where, .by = loop };
+    Frame *const frames = self.frames;
+    if (!loop)
+        return false;
+    self.calls = (Call *)&here;
+    self.frames = NULL;
+    fault("Hang", NULL, "this code runs on, and makes no call, while %s at %s waits; %s", calls->name, place(at), in_flight);
+    self.calls = calls;
+    self.frames = frames;
+    return true;
+}
+
 /* A wait hangs: told, once. The run goes on where a lost packet can be completed; else it ends. One that only lasts
    long goes on as well, where each packet has moved since it began. */
 void hang(Woken why, unsigned long began, WDM_SITE at)
 {
-    static bool told;
+    static bool told, by_loop;
     char text[400];
     Call c;
     enter_host(&c, "KeWaitForSingleObject", at);
@@ -201,11 +218,14 @@ void hang(Woken why, unsigned long began, WDM_SITE at)
             if (is_cancelled_and_held(packets[i]))
                 tell_cancelled_and_held(packets[i]);
         tell_in_flight(text, sizeof text);
-        fault("Hang", NULL, why == OVERDUE ? "waits, and no thread ends the wait, while other threads go on; %s%s" :
-              "waits, and no thread will end the wait; %s%s", text, never_set());
+        by_loop = tell_loop(at, text);
+        if (!by_loop)
+            fault("Hang", NULL, why == OVERDUE ? "waits, and no thread ends the wait, while other threads go on; %s%s" :
+                  "waits, and no thread will end the wait; %s%s", text, never_set());
     }
     const bool goes_on = complete_lost();
     if (!goes_on)
-        give_up(why == OVERDUE ? "a packet doesn't go on any more" : "a deadlock: every thread waits");
+        give_up(by_loop ? "a thread runs on for ever" : why == OVERDUE ? "a packet doesn't go on any more" :
+                "a deadlock: every thread waits");
     leave_host();
 }

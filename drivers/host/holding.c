@@ -4,7 +4,7 @@
 #include "requests.h"
 #include <pthread.h>
 
-enum { MAX_CHILDREN = 16, MAX_ASKED = 256 + 64 };
+enum { MOST_FOR_TIMERS = 300, MAX_CHILDREN = 16, MAX_ASKED = 256 + 64 };
 static const char held_none[] = "each request was completed at once";
 static const char needs_file[] = "a driver keeps a context in files, so each request needs one";
 
@@ -142,6 +142,17 @@ void sleep_and_wake(PDEVICE_OBJECT top)
         end_request(&read, PATIENT);
 }
 
+/* Timers that are armed then go off. */
+static void let_timers_go_off(void)
+{
+    LARGE_INTEGER moment = { .QuadPart = -10000 };
+    const unsigned long rung = timers_rung_asleep();
+    const ULONG left = next_timer_asleep();
+    for (ULONG i = 0; left && left <= MOST_FOR_TIMERS && i < 10 * MOST_FOR_TIMERS && timers_rung_asleep() == rung; i++)
+        KeDelayExecutionThread(KernelMode, FALSE, &moment);
+    made_if(SITUATION_TIME_IN_D3, left <= MOST_FOR_TIMERS, "each timer that is armed then is due later");
+}
+
 /* A read comes while the device has no power. */
 void use_in_d3(PDEVICE_OBJECT top)
 {
@@ -150,6 +161,7 @@ void use_in_d3(PDEVICE_OBJECT top)
         return;
     const BOOLEAN reads = start_request(&read, top, transfer(IRP_MJ_READ, 16), PLAIN);
     made(SITUATION_READ_IN_D3);
+    let_timers_go_off();
     set_power(top, IRP_MN_SET_POWER, PowerDeviceD0);
     if (reads)
         end_request(&read, PATIENT);
@@ -261,6 +273,23 @@ static void unplug_while_read(PDEVICE_OBJECT top)
         end_request(&during.read, PATIENT);
 }
 
+/* Where a device of the host's pends what drivers send, a packet of their own is on its way when the device goes: a timer may
+   have to go off first. */
+static void await_own_packet(void)
+{
+    LARGE_INTEGER moment = { .QuadPart = -10000 };
+    const BOOLEAN is_pended = getenv("WDM_PEND") != NULL;
+    keep_own_packets(is_pended);
+    for (int i = 0; is_pended && i < MOST_FOR_TIMERS && own_packets() == OWN_ENDED; i++)
+        KeDelayExecutionThread(KernelMode, FALSE, &moment);
+    const OwnPackets own = own_packets();
+    if (own == OWN_IN_FLIGHT)
+        made(SITUATION_OWN_REMOVED);
+    else
+        not_there(SITUATION_OWN_REMOVED, own == NO_OWN ? "no driver sends a packet of its own" :
+                  "each of them was completed before: run --force-pending");
+}
+
 /* Nobody has the device open. What drivers elsewhere have asked for, and is held, is ended by its removal. */
 void remove_in_order(PDEVICE_OBJECT top, Opened o, BOOLEAN is_read)
 {
@@ -272,6 +301,7 @@ void remove_in_order(PDEVICE_OBJECT top, Opened o, BOOLEAN is_read)
     set_power(top, IRP_MN_SET_POWER, PowerDeviceD3);
     const BOOLEAN has_locks = WdmHaveRemoveLocks(top, bottom);
     made_if(SITUATION_HELD_REMOVE, is_any_held(&asked), o.has_context ? needs_file : held_none);
+    await_own_packet();
     if (is_read)
         not_made(SITUATION_READ_MEETS_REMOVE, o.has_context ? needs_file : has_locks ? "IRP_MN_REMOVE_DEVICE isn't passed down" :
                  "not each driver has a remove lock");
@@ -279,6 +309,7 @@ void remove_in_order(PDEVICE_OBJECT top, Opened o, BOOLEAN is_read)
         unplug_while_read(top);
     else
         WdmUnplug(bottom, FALSE);
+    keep_own_packets(FALSE);
     made(SITUATION_REMOVED);
     end_asked(&asked, PATIENT);
 }

@@ -135,7 +135,7 @@ typedef struct Frame {
     Entry *below; /* in_place.c: the rider's send, which returns when the dispatch's own does */
     ULONG lower, done, status;
     uint64_t information;
-    const char *forced_why;
+    const char *forced_why, *acted; /* acted: a call by which it handles its request of Plug and Play */
     WDM_SITE last;
     const char *last_call;
 } Frame;
@@ -356,6 +356,7 @@ void tell_work_queued(int device);
 bool is_bottom(PDEVICE_OBJECT device);
 bool timers_armed(void);
 ULONG next_new_timer(ULONG most);
+PKTIMER armed_timers(void);
 
 /* devices.c, packets.c, preparing.c */
 void delete_after(int device);

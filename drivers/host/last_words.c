@@ -13,7 +13,7 @@
 #include <sys/ucontext.h>
 #include <unistd.h>
 
-enum { STACK = 1 << 18, MOST_PLACES = 8, SECONDS_FOR_IT = 10, ASK = SIGURG };
+enum { STACK = 1 << 18, MOST_PLACES = 8, SECONDS_FOR_IT = 10, ASK = SIGURG, ENDS_STOPPED = SIGUSR2 };
 static Self *selves[MAX_SEATS];
 static struct { const void *at[MOST_PLACES]; _Atomic int n; } places[MAX_SEATS];
 static bool is_finished;
@@ -148,30 +148,88 @@ static const char *name_of(int number)
 {
     return number == SIGSEGV || number == SIGBUS ? "it touches what is no memory" :
         number == SIGFPE ? "a division by zero" : number == SIGABRT ? "abort" : number == SIGTERM ? "its time is over" :
-        "no instruction";
+        number == ENDS_STOPPED ? "a signal has stopped it (SIGSTOP or the like)" : "no instruction";
 }
 
 /* Tells why and where the run ends, and ends it. */
-__attribute__((noreturn)) static void stop_here(const char *why, const void *const *at, int n, const char *hint)
+void stop_here(const char *why, const void *const *at, int n, const Frame *in, const char *hint)
 {
     char where[600];
     put_places(where, sizeof where, at, n);
     n_faults++;
-    say("STOPPED: %s%s%s%s%s%s", why, n ? ", at " : "", where, self.frames ? "; in " : "",
-        self.frames ? what_runs(self.frames) : "", hint);
+    say("STOPPED: %s%s%s%s%s%s", why, n ? ", at " : "", where, in ? "; in " : "",
+        in ? what_runs(in) : "", hint);
     take_lock_for_a_while();
     tell_thread(&self, "");
     stop_run(why);
 }
 
-/* Each other thread writes down where it is. */
-static void ask_places(void)
+/* Each other thread writes down where it is: of real threads, since others are where they wait. */
+void ask_places(void)
 {
     const struct timespec moment = { 0, 100000000 };
     for (int s = 0; s < MAX_SEATS; s++)
         if (selves[s] && selves[s] != &self)
             pthread_kill(selves[s]->id, ASK);
     nanosleep(&moment, NULL);
+}
+
+static bool is_code_of_driver(const void *at)
+{
+    for (int i = 0; i < n_drivers; i++)
+        if (is_code_of_one(at, (const void *)drivers[i]->DriverInit))
+            return true;
+    return false;
+}
+
+/* Once all have written down where they are: whether the thread of a seat is in a driver's code, in no call of the host's. */
+static bool is_in_driver(int seat)
+{
+    const Self *t = selves[seat];
+    return t && t != &self && !t->wait && !t->has_host && places[seat].n > 0 && is_code_of_driver(places[seat].at[0]);
+}
+
+static long worked_for(int seat) /* milliseconds of a processor's */
+{
+    clockid_t its;
+    struct timespec t = { 0 };
+    if (!pthread_getcpuclockid(selves[seat]->id, &its))
+        clock_gettime(its, &t);
+    return (long)t.tv_sec * 1000 + t.tv_nsec / 1000000;
+}
+
+/* Under G, so that a call would end its work: whether it goes on working. */
+static bool works_on(int seat)
+{
+    const struct timespec moment = { 0, 20000000 };
+    const long began = worked_for(seat);
+    for (int i = 0; i < 50 && worked_for(seat) < began + 20; i++)
+        nanosleep(&moment, NULL);
+    return worked_for(seat) >= began + 20;
+}
+
+static int looping_seat(void)
+{
+    for (int s = 0; s < n_seats; s++)
+        if (is_in_driver(s))
+            return s;
+    return NOBODY;
+}
+
+/* Under G: where another thread runs on in a driver's code, and makes no call; or NULL. */
+const void *loop_of_others(char *text, size_t size)
+{
+    if (by_schedule)
+        return NULL;
+    ask_places();
+    const int s = looping_seat();
+    if (s < 0 || !works_on(s))
+        return NULL;
+    ask_places();
+    if (!is_in_driver(s))
+        return NULL;
+    put_places(text, size, places[s].at, places[s].n);
+    return places[s].at[0];
 }
 
 static void place_asked(int number, siginfo_t *info, void *context)
@@ -195,25 +253,29 @@ static void stopped(int number, siginfo_t *info, void *context)
         at[0] = return_of(context);
     else
         n = where_is(true, at, MOST_PLACES);
-    if (number == SIGTERM)
+    if (number == SIGTERM || number == ENDS_STOPPED)
         ask_places();
+    const int loop = number == SIGTERM && self.wait ? looping_seat() : NOBODY;
+    if (loop >= 0)
+        stop_here("its time is over, and a thread runs on", places[loop].at, places[loop].n, selves[loop]->frames, "");
     const bool is_null = is_memory && !has_no_code && (uintptr_t)info->si_addr < PAGE_SIZE;
-    stop_here(why, at, n, is_null && self.frames && self.frames->p ? buffer_missing(self.frames->p) : "");
+    stop_here(why, at, n, self.frames, is_null && self.frames && self.frames->p ? buffer_missing(self.frames->p) : "");
 }
 
 void crashed(int number, siginfo_t *info, void *context) { stopped(number, info, context); }
 
 /* The run ends here, without a signal. */
-__attribute__((noreturn)) static void end_at(const char *why)
+void end_at(const char *why)
 {
     const void *at[MOST_PLACES];
     begin_last_words();
-    stop_here(why, at, where_is(false, at, MOST_PLACES), "");
+    stop_here(why, at, where_is(false, at, MOST_PLACES), self.frames, "");
 }
 
 /* The end of the process that isn't the run's: the test's main has returned, or somebody called exit. */
 static void ended_early(void)
 {
+    tell_jump();
     if (!is_finished)
         end_at("the program ends before WdmFinish");
 }
@@ -223,7 +285,7 @@ void run_is_finished(void) { is_finished = true; }
 /* Once, before the first driver is loaded. */
 void watch_for_the_end(void)
 {
-    static const int numbers[] = { SIGBUS, SIGFPE, SIGILL, SIGABRT, SIGTERM };
+    static const int numbers[] = { SIGBUS, SIGFPE, SIGILL, SIGABRT, SIGTERM, ENDS_STOPPED };
     struct sigaction s = { .sa_sigaction = stopped, .sa_flags = SA_SIGINFO | SA_ONSTACK | (by_snapshots ? SA_NODEFER : 0) };
     for (size_t i = 0; i < sizeof numbers / sizeof *numbers; i++)
         sigaction(numbers[i], &s, NULL);
@@ -231,6 +293,7 @@ void watch_for_the_end(void)
     s.sa_flags |= SA_RESTART;
     sigaction(ASK, &s, NULL);
     atexit(ended_early);
+    watch_for_jumps_and_forks();
 }
 
 /* A thread gets its seat: it is known here, and has a stack for a handler, whatever becomes of its own. */

@@ -16,6 +16,9 @@ POWER_STATE PoSetPowerState(PDEVICE_OBJECT Device, POWER_STATE_TYPE Type, POWER_
     return before;
 }
 
+/* Under G: whether its driver, which then is in charge of its power, said that the device has none. */
+bool is_reported_off(int device) { return reported[device][true].DeviceState > PowerDeviceD0; }
+
 enum { MAX_WAITING = 64 };
 typedef struct { PDEVICE_OBJECT top; PIRP irp; WDM_SITE at; } Sending;
 

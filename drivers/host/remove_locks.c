@@ -6,10 +6,72 @@
 #include "host.h"
 
 enum { MAX_LOCKS = MAX_DEVICES + 64 };
-typedef struct { PVOID tag; int seat, device; UCHAR major; bool in_dispatch; WDM_SITE at; const Packet *p; uint64_t use; } Held;
+typedef struct { PVOID tag; int seat, device; UCHAR major; bool in_dispatch; WDM_SITE at; const Packet *p; uint64_t use, frame; } Held;
 typedef struct { PIO_REMOVE_LOCK raw; WDM_SITE made; Held held[MAX_HELD]; int n; bool removed; uint64_t knows; } Lock;
 
 static Lock locks[MAX_LOCKS];
+
+/* The ways by which routines returned that acquired a lock which is still held, or that had the packet of its tag: the last
+   ones, the newest over the eldest. */
+enum { MAX_WAYS = 128, MOST_WAYS = 2 };
+typedef struct { const Lock *lock; PVOID tag; uint64_t use, frame; const void *fn; CallSite last; Callers by; } Way;
+static Way ways[MAX_WAYS];
+static unsigned long n_ways;
+
+static void keep_way(const Lock *k, const Held *h, const Frame *f)
+{
+    Way *w = &ways[n_ways++ % MAX_WAYS];
+    const WDM_SITE done = f->p ? f->p->sites.completed : (WDM_SITE){ 0 };
+    *w = (Way){ k, h->tag, h->use, h->frame, f->fn, { f->last, f->last_call }, { .n = 0 } };
+    if (f->last.file && f->last.file == done.file && f->last.line == done.line)
+        w->by = f->p->completers;
+}
+
+static void keep_ways(const Lock *k, const Frame *f)
+{
+    for (int i = 0; i < k->n; i++)
+        if (k->held[i].frame == f->number || (k->held[i].p && k->held[i].p == f->p && k->held[i].use == f->use))
+            keep_way(k, &k->held[i], f);
+}
+
+/* A routine returns. Under G. */
+void keep_lock_ways(const Frame *f)
+{
+    if (f->device >= 0)
+        keep_ways(&locks[f->device], f);
+    for (int i = MAX_DEVICES; i < MAX_LOCKS; i++)
+        keep_ways(&locks[i], f);
+}
+
+static bool was_before(unsigned long n, unsigned long newest)
+{
+    for (unsigned long i = n + 1; i <= newest; i++)
+        if (ways[i % MAX_WAYS].fn == ways[n % MAX_WAYS].fn && ways[i % MAX_WAYS].frame == ways[n % MAX_WAYS].frame)
+            return true;
+    return false;
+}
+
+/* By which ways it was left, the last one first; empty where no routine has returned since. */
+static const char *left_by(const Lock *k, const Held *h)
+{
+    static _Thread_local char text[400];
+    size_t length = 0;
+    int told = 0;
+    *text = 0;
+    for (unsigned long n = n_ways; n-- > 0 && n + MAX_WAYS >= n_ways && told < MOST_WAYS && length < sizeof text;) {
+        const Way *w = &ways[n % MAX_WAYS];
+        if (w->lock != k || w->tag != h->tag || w->use != h->use || w->frame != h->frame || was_before(n, n_ways - 1))
+            continue;
+        const char *between = told++ ? ", and by " : ", left by ";
+        if (w->last.call)
+            length += (size_t)snprintf(text + length, sizeof text - length, "%s%s after %s at %s", between, function_name(w->fn),
+                                       w->last.call, place_with_callers(w->last.site, &w->by));
+        else
+            length += (size_t)snprintf(text + length, sizeof text - length, "%s+0x%lx in %s", between, place_in_program(w->fn),
+                                       function_name(w->fn));
+    }
+    return text;
+}
 
 static bool is_devices(int lock) { return lock < MAX_DEVICES; }
 
@@ -62,17 +124,17 @@ static const char *tagged(const Held *h)
 /* Who holds the lock: tags, and where they were taken. */
 const char *held_tags(int device)
 {
-    static _Thread_local char text[600];
+    static _Thread_local char text[800];
     size_t n = 0;
     const Lock *k = &locks[device];
     if (!k->n)
         return k->removed ? "" : "; no IoReleaseRemoveLockAndWait has returned";
     for (int i = 0; i < k->n && i < 4 && n < sizeof text; i++) {
         const Held *h = &k->held[i];
-        n += (size_t)snprintf(text + n, sizeof text - n, "%stag %lu%s, taken at %s in %s%s%s%s", n ? "; " : ": ",
+        n += (size_t)snprintf(text + n, sizeof text - n, "%stag %lu%s, taken at %s in %s%s%s%s%s", n ? "; " : ": ",
                               (unsigned long)number_of(h->tag), tagged(h), place(h->at), h->at.function ? h->at.function : "?",
                               h->in_dispatch ? " (dispatch for " : "", h->in_dispatch ? major_name(h->major) : "",
-                              h->in_dispatch ? ")" : "");
+                              h->in_dispatch ? ")" : "", left_by(k, h));
     }
     if (k->n > 4 && n < sizeof text)
         snprintf(text + n, sizeof text - n, "; and %d more", k->n - 4);
@@ -156,11 +218,12 @@ NTSTATUS WdmIoAcquireRemoveLock(PIO_REMOVE_LOCK RemoveLock, PVOID Tag, WDM_SITE 
     const bool removed = k->removed;
     const Frame *f = self.frames;
     if (!removed && k->n == MAX_HELD)
-        give_up("a remove lock is held 1,024 times");
+        reach_limit("a remove lock that is held 1,024 times: let its test have fewer requests at once");
     if (!removed)
         k->held[k->n++] = (Held){ .tag = Tag, .seat = self.seat, .device = f ? f->device : NOBODY, .at = at,
                                   .in_dispatch = f && f->kind == DISPATCH, .major = f ? f->major : 0,
-                                  .p = f && f->p && f->p->irp == Tag ? f->p : NULL, .use = f ? f->use : 0 };
+                                  .p = f && f->p && f->p->irp == Tag ? f->p : NULL, .use = f ? f->use : 0,
+                                  .frame = f ? f->number : 0 };
     write_word("acquire", d, Tag, removed ? "{\"status\":3221225558}" : "{\"status\":0}", self.seat, -1);
     leave_host();
     return removed ? STATUS_DELETE_PENDING : STATUS_SUCCESS;

@@ -125,6 +125,20 @@ NTSTATUS set_system_power(PDEVICE_OBJECT top, UCHAR minor, SYSTEM_POWER_STATE st
     return send_power(top, minor, SystemPowerState, (POWER_STATE){ .SystemState = state });
 }
 
+NTSTATUS notify_usage(PDEVICE_OBJECT top, BOOLEAN is_used)
+{
+    IO_STATUS_BLOCK iosb;
+    KEVENT ended;
+    KeInitializeEvent(&ended, NotificationEvent, FALSE);
+    PIRP irp = WdmBuildIrp(top, IRP_MJ_PNP, IRP_MN_DEVICE_USAGE_NOTIFICATION, 0, &iosb, &ended);
+    PIO_STACK_LOCATION next = IoGetNextIrpStackLocation(irp);
+    next->Parameters.UsageNotification.InPath = is_used;
+    next->Parameters.UsageNotification.Type = DeviceUsageTypePaging;
+    IoCallDriver(top, irp);
+    KeWaitForSingleObject(&ended, Executive, KernelMode, FALSE, NULL);
+    return iosb.Status;
+}
+
 static void add_control(ULONG code)
 {
     for (int i = 0; i < n_controls; i++)

@@ -34,6 +34,19 @@ NTSTATUS make_request(PDEVICE_OBJECT top, What what, How how, int milliseconds);
 NTSTATUS set_power(PDEVICE_OBJECT top, UCHAR minor, DEVICE_POWER_STATE state);
 NTSTATUS set_system_power(PDEVICE_OBJECT top, UCHAR minor, SYSTEM_POWER_STATE state);
 
+/* A paging file comes onto the device, or goes from it: IRP_MN_DEVICE_USAGE_NOTIFICATION. */
+NTSTATUS notify_usage(PDEVICE_OBJECT top, BOOLEAN is_used);
+
+/* own_packets.c: whether drivers have sent packets of their own, and one is on its way. between.c: it stays so for a while. */
+typedef enum { NO_OWN, OWN_ENDED, OWN_IN_FLIGHT } OwnPackets;
+OwnPackets own_packets(void);
+void keep_own_packets(BOOLEAN keeps);
+
+/* timers_asleep.c: the milliseconds until a timer goes off that was armed when its device's driver let the power go, at least 1, or 0
+   where there is none; and how often one did. */
+ULONG next_timer_asleep(void);
+unsigned long timers_rung_asleep(void);
+
 /* Whether each device from this one down to the bottom one has a remove lock that was acquired. */
 BOOLEAN WdmHaveRemoveLocks(PDEVICE_OBJECT Top, PDEVICE_OBJECT Bottom);
 

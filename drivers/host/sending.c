@@ -75,6 +75,7 @@ NTSTATUS enter_device(Packet *p, int d, Entry *e)
     raw_at(p, p->current)->DeviceObject = devices[d].raw;
     prepare_nothing(p);
     request_came(devices[d].driver->HostNumber, l->major, raw_at(p, p->current)->MinorFunction);
+    power_comes(raw_at(p, p->current), d);
     PDRIVER_DISPATCH fn = devices[d].raw->DriverObject->MajorFunction[l->major];
     if (!fn) {
         check_dispatch_there(p, d, l->major);

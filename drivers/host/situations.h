@@ -33,6 +33,7 @@
     ROW(NO_START, "a device below that doesn't start", BELOW) \
     ROW(UNKNOWN_PNP, "a Plug and Play request that nobody knows", BELOW) \
     ROW(WMI, "a request of WMI", BELOW) \
+    ROW(PAGING, "a paging file that comes and goes", BELOW) \
     ROW(STOP_ASKED, "a stop asked for and called off", BELOW) \
     ROW(READ_STOPPING, "a read between QUERY_STOP and CANCEL_STOP", BELOW) \
     ROW(STOPPED_AGAIN, "a stop, and a start again", BELOW) \
@@ -41,6 +42,7 @@
     ROW(READ_REMOVING, "a read between QUERY_REMOVE and CANCEL_REMOVE", BELOW) \
     ROW(REMOVED, "a removal", BELOW) \
     ROW(HELD_REMOVE, "a request held over a removal", OF_STACK) \
+    ROW(OWN_REMOVED, "a driver's own packet on its way over a removal", BELOW) \
     ROW(READ_MEETS_REMOVE, "a read that comes while the removal is below", BELOW) \
     ROW(SURPRISED, "a removal by surprise", BELOW) \
     ROW(HELD_SURPRISE, "a request held over a removal by surprise", OF_STACK) \
@@ -48,6 +50,7 @@
     ROW(SLEPT, "the system falls asleep and wakes", BELOW) \
     ROW(READ_SLEEPS, "a read on its way while the system falls asleep", BELOW) \
     ROW(READ_IN_D3, "a read while the device is in D3", BELOW) \
+    ROW(TIME_IN_D3, "time that passes while the device is in D3", BELOW) \
     ROW(CHILDREN, "the children that a bus reports", BELOW)
 
 typedef enum { ANY, BELOW, HELD, BY_DRIVER, OF_STACK } Needs;

@@ -190,7 +190,7 @@ static void begin_anew(void)
 {
     int status;
     shared->n_begun++;
-    const pid_t pid = fork();
+    const pid_t pid = fork_run();
     if (pid < 0)
         lose_process();
     if (!pid) {

@@ -85,12 +85,14 @@ void enter_quietly(Call *c, const char *name, WDM_SITE at)
     __atomic_add_fetch(&host_activity, 1, __ATOMIC_SEQ_CST);
     if (self.seat < 0)
         take_seat();
+    tell_jump();
     *c = (Call){ .up = self.calls, .name = name, .at = at, .is_entered = true };
     self.calls = c;
     self.has_host = true;
     self.last = at;
     self.last_call = name;
     check_devices();
+    remember_act(name);
     if (self.frames && at.file) {
         self.frames->last = at;
         self.frames->last_call = name;
@@ -113,6 +115,7 @@ void hold_host(const char *call, const void *object, Touch how)
 {
     point(call, (WDM_SITE){ 0 });
     pthread_mutex_lock(&host_lock);
+    remember_act(call);
     touch(object, how);
 }
 
@@ -124,6 +127,7 @@ void let_driver_run(void)
 
 void driver_came_back(void)
 {
+    tell_jump();
     const Frame *f = self.frames;
     point("the return to the host", self.calls ? self.calls->at : (WDM_SITE){ 0 });
     pthread_mutex_lock(&host_lock);
@@ -151,6 +155,7 @@ void enter_frame(Frame *f)
 void leave_frame(void)
 {
     check_blocks(self.frames);
+    keep_lock_ways(self.frames);
     leave_level(self.frames);
     if (self.frames->device >= 0) {
         touch(&devices[self.frames->device].running, MEETS);

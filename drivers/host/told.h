@@ -16,6 +16,17 @@ void watch_for_the_end(void);
 void watch_thread(void);
 void thread_is_gone(int seat);
 void begin_last_words(void);
+void ask_places(void);
+const void *loop_of_others(char *text, size_t size);
+__attribute__((noreturn)) void stop_here(const char *why, const void *const *at, int n, const Frame *in, const char *hint);
+__attribute__((noreturn)) void end_at(const char *why);
+
+/* leaving.c */
+int fork_run(void);
+void tell_jump(void);
+void watch_for_jumps_and_forks(void);
+
+/* last_words.c */
 void run_is_finished(void);
 void tell_others(void);
 void tell_packets(void);
@@ -120,6 +131,7 @@ void tell_touch(const char *call, PIRP irp);
 void tell_all_touches(void);
 bool lock_knows_drained(int device);
 const char *held_tags(int device);
+void keep_lock_ways(const Frame *f);
 
 /* initialized.c */
 Packet *initialized_at(const void *at);

@@ -89,6 +89,7 @@ static void queue_dpc(PKDPC dpc)
 
 static void take_out(PKTIMER timer)
 {
+    forget_asleep(timer);
     for (PKTIMER *t = &timers; *t; t = &(*t)->HostNext)
         if (*t == timer) {
             *t = timer->HostNext;
@@ -102,6 +103,9 @@ static bool lies_in(const void *it, const void *from, size_t size)
 {
     return (const char *)it >= (const char *)from && (const char *)it < (const char *)from + size;
 }
+
+/* Under G. */
+PKTIMER armed_timers(void) { return timers; }
 
 /* An armed timer in this memory, or NULL. It is taken out. */
 PKTIMER take_timer_in(const void *from, size_t size)
@@ -149,6 +153,7 @@ static void ring(void)
     for (PKTIMER t = timers, after; t; t = after) {
         after = t->HostNext;
         if (t->DueTime.QuadPart <= now) {
+            tell_asleep(t);
             if (t->Period)
                 t->DueTime.QuadPart = now + (LONGLONG)t->Period * 10000;
             else

@@ -69,6 +69,19 @@ static NTSTATUS EndsPower(PEXTENSION Ext, PIRP Irp, BOOLEAN Wrong)
     return STATUS_SUCCESS;
 }
 
+/* What IRP_MN_SURPRISE_REMOVAL is for is done, and its status isn't set. */
+static NTSTATUS QuietsDown(PEXTENSION Ext, PIRP Irp, BOOLEAN Wrong)
+{
+    if (IoGetCurrentIrpStackLocation(Irp)->MinorFunction == IRP_MN_SURPRISE_REMOVAL) {
+        KeCancelTimer(&Ext->Timer);
+        if (!Wrong)
+            Irp->IoStatus.Status = STATUS_SUCCESS;
+    }
+    Ext->Step = 1;
+    IoSkipCurrentIrpStackLocation(Irp);
+    return IoCallDriver(Ext->Lower, Irp); /* told: StatusNotSet */
+}
+
 /* Where it is broken the driver has no dispatch for it (driver.c). */
 NTSTATUS HasNone(PEXTENSION Ext, PIRP Irp, BOOLEAN Wrong)
 {
@@ -81,6 +94,6 @@ const CASE_ROW PowerCases[] = {
     { "NextPowerIrp", NULL, NULL, PassesPower }, { "NextPowerIrp_Routine", NULL, NULL, PassesPowerWithRoutine },
     { "PnpStatusChanged_Unhandled", NULL, SaysInvalid, NULL }, { "NotPassedDown_Unhandled", NULL, KeepsQuestion, NULL },
     { "NotPassedDown_Power", NULL, NULL, EndsPower }, { "NotPassedDown_None", NULL, NULL, HasNone },
-    { "PnpStatusChanged_Passed", NULL, PassesFailure, NULL },
+    { "PnpStatusChanged_Passed", NULL, PassesFailure, NULL }, { "StatusNotSet", NULL, QuietsDown, NULL },
     { NULL, NULL, NULL, NULL },
 };

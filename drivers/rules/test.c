@@ -41,6 +41,8 @@ static void run_case(ULONG n, BOOLEAN wrong)
     if (!strcmp(RulesName(n), "Unwritten"))
         send_as_program(top, n << 2);
     WdmSend(top, IRP_MJ_POWER, IRP_MN_SET_POWER, 0);
+    if (!strcmp(RulesName(n), "StatusNotSet"))
+        WdmSend(top, IRP_MJ_PNP, IRP_MN_SURPRISE_REMOVAL, 0);
     WdmSend(top, IRP_MJ_PNP, IRP_MN_REMOVE_DEVICE, 0);
     IoDeleteDevice(bottom);
     WdmUnloadDriver(driver);
