@@ -93,6 +93,7 @@ bool waited_in(const void *from, size_t size, WDM_SITE *at); /* waits.c */
 void check_gone(const void *from, size_t size, const char *what);
 PKTIMER take_timer_in(const void *from, size_t size); /* work.c */
 PKDPC take_dpc_in(const void *from, size_t size);
+void check_work_gone(const void *from, size_t size, const char *what); /* more_work.c */
 
 /* watching.c, completions.c */
 void watch_sent(Packet *p, int by, uint64_t use);

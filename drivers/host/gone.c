@@ -1,4 +1,5 @@
-/* gone.c: memory that goes, a pool block or a deleted device's extension, with a packet, timer, deferred call or lock in it. */
+/* gone.c: memory that goes, a pool block or a deleted device's extension, with a packet, timer, deferred call, work item
+   or lock in it. */
 #include "host.h"
 
 void check_gone(const void *from, size_t size, const char *what)
@@ -14,6 +15,7 @@ void check_gone(const void *from, size_t size, const char *what)
     WDM_SITE at;
     if (waited_in(from, size, &at))
         broken("UsedInFreedMemory", NULL, "a thread waits since %s, for an object in the %s", place(at), what);
+    check_work_gone(from, size, what);
     forget_locks(from, size, what);
     forget_remove_locks(from, size, what);
 }

@@ -65,6 +65,13 @@ static const Level levels[] = {
     { "IoAllocateWorkItem", 0, DISPATCH_LEVEL, ANY_LOCK, NULL },
     { "IoQueueWorkItem", 0, DISPATCH_LEVEL, ANY_LOCK, NULL },
     { "IoFreeWorkItem", 0, DISPATCH_LEVEL, ANY_LOCK, NULL },
+    { "IoInitializeWorkItem", 0, DISPATCH_LEVEL, ANY_LOCK, NULL },
+    { "IoUninitializeWorkItem", 0, DISPATCH_LEVEL, ANY_LOCK, NULL },
+    { "ExQueueWorkItem", 0, DISPATCH_LEVEL, ANY_LOCK, NULL },
+    { "IoCheckShareAccess", 0, PASSIVE_LEVEL, NO_LOCK, NULL },
+    { "IoSetShareAccess", 0, PASSIVE_LEVEL, NO_LOCK, NULL },
+    { "IoUpdateShareAccess", 0, PASSIVE_LEVEL, NO_LOCK, NULL },
+    { "IoRemoveShareAccess", 0, PASSIVE_LEVEL, NO_LOCK, NULL },
 };
 
 const char *level_name(KIRQL irql)

@@ -1,20 +1,10 @@
 /* work_items.c: work items, on up to eight threads of the host. All of it is under G. */
-#include "host.h"
-
-struct _IO_WORKITEM {
-    PDEVICE_OBJECT device;
-    PIO_WORKITEM_ROUTINE routine;
-    PVOID context;
-    bool queued;
-    struct _IO_WORKITEM *next;
-    WDM_SITE made;
-    int driver;
-    struct _IO_WORKITEM *next_made;
-};
+#include "work_items.h"
 
 enum { MAX_WORKERS = 8 };
 static Condition work_came = { &host_lock, PTHREAD_COND_INITIALIZER };
-static PIO_WORKITEM first_item, last_item, items; /* items: all that are there */
+static PIO_WORKITEM first_item, last_item;
+PIO_WORKITEM items;
 static int n_workers, n_idle;
 
 /* For whoever has waited until no item is left. */
@@ -45,7 +35,7 @@ static bool has_item(const void *number)
 bool has_work(int device)
 {
     for (PIO_WORKITEM i = first_item; i; i = i->next)
-        if (i->device->HostNumber == device)
+        if (i->device && i->device->HostNumber == device)
             return true;
     return false;
 }
@@ -69,20 +59,20 @@ static void *work(void *context)
     enter_host(&c, "a work item", (WDM_SITE){ 0 });
     for (;;) {
         await_item((int)(intptr_t)context);
-        struct _IO_WORKITEM *item = first_item;
-        PIO_WORKITEM_ROUTINE routine = item->routine;
-        PDEVICE_OBJECT device = item->device;
-        PVOID its = item->context;
+        struct _IO_WORKITEM *item = first_item, now = *item;
         first_item = item->next;
         if (!first_item)
             last_item = NULL;
         item->queued = false;
         touch(item, SYNCS);
-        Frame f = { .kind = WORK, .fn = (void *)routine, .device = device->HostNumber, .settled = true };
-        run_work(&f, device->DriverObject->HostNumber);
-        routine(device, its);
+        if (now.plain)
+            forget_plain(item);
+        Frame f = { .kind = WORK, .fn = (void *)now.routine, .device = now.device ? now.device->HostNumber : NOBODY, .settled = true };
+        run_work(&f, now.driver);
+        call_routine(&now, item);
         work_done();
-        item_has_returned(device->HostNumber);
+        if (now.device)
+            item_has_returned(now.device->HostNumber);
     }
     return NULL;
 }
@@ -94,7 +84,7 @@ PIO_WORKITEM WdmIoAllocateWorkItem(PDEVICE_OBJECT Device, WDM_SITE at)
     struct _IO_WORKITEM *item = memory_is_refused(c.name, at) ? NULL : host_memory(sizeof *item);
     if (item) {
         const int driver = Device->DriverObject->HostNumber;
-        *item = (struct _IO_WORKITEM){ .device = Device, .made = at, .driver = driver, .next_made = items };
+        *item = (struct _IO_WORKITEM){ .device = Device, .object = Device, .made = at, .driver = driver, .next_made = items };
         items = item;
     }
     leave_host();
@@ -113,12 +103,47 @@ static bool is_item(const struct _IO_WORKITEM *item)
 void tell_work_queued(int device)
 {
     for (PIO_WORKITEM i = first_item; i; i = i->next)
-        if (i->device->HostNumber == device)
+        if (i->device && i->device->HostNumber == device)
             note("a work item", "%s is deleted while its work item %s is in the queue, which was allocated at %s", who(device),
                  function_name((void *)i->routine), place(i->made));
 }
 
-VOID WdmIoQueueWorkItem(PIO_WORKITEM Item, PIO_WORKITEM_ROUTINE Routine, PVOID Context, WDM_SITE at)
+void put_into_queue(PIO_WORKITEM item)
+{
+    item->queued = true;
+    item->next = NULL;
+    if (item->device)
+        item_is_queued(item->device->HostNumber);
+    if (last_item)
+        last_item->next = item;
+    else
+        first_item = item;
+    last_item = item;
+    touch(&first_item, SYNCS);
+    if (n_idle < n_queued() && n_workers < MAX_WORKERS &&
+        !start_thread(work, (void *)(intptr_t)n_workers, "worker", NULL, NULL))
+        n_workers++;
+    tell_waiters(&work_came);
+}
+
+/* Its memory goes. */
+void take_from_queue(PIO_WORKITEM item)
+{
+    PIO_WORKITEM *i = &first_item, last = NULL;
+    while (*i && *i != item) {
+        last = *i;
+        i = &(*i)->next;
+    }
+    if (*i)
+        *i = item->next;
+    if (last_item == item)
+        last_item = last;
+    if (item->queued && item->device)
+        item_has_returned(item->device->HostNumber);
+    item->queued = false;
+}
+
+void queue_item(PIO_WORKITEM Item, PIO_WORKITEM_ROUTINE Routine, bool is_extended, PVOID Context, WDM_SITE at)
 {
     Call c;
     enter_host(&c, "IoQueueWorkItem", at);
@@ -133,22 +158,16 @@ VOID WdmIoQueueWorkItem(PIO_WORKITEM Item, PIO_WORKITEM_ROUTINE Routine, PVOID C
         fault("QueuedTwice", NULL, "the work item is in the queue already");
     else if (is_there) {
         Item->routine = Routine;
+        Item->is_extended = is_extended;
         Item->context = Context;
-        Item->queued = true;
-        Item->next = NULL;
-        item_is_queued(Item->device->HostNumber);
-        if (last_item)
-            last_item->next = Item;
-        else
-            first_item = Item;
-        last_item = Item;
-        touch(&first_item, SYNCS);
-        if (n_idle < n_queued() && n_workers < MAX_WORKERS &&
-            !start_thread(work, (void *)(intptr_t)n_workers, "worker", NULL, NULL))
-            n_workers++;
-        tell_waiters(&work_came);
+        put_into_queue(Item);
     }
     leave_host();
+}
+
+VOID WdmIoQueueWorkItem(PIO_WORKITEM Item, PIO_WORKITEM_ROUTINE Routine, PVOID Context, WDM_SITE at)
+{
+    queue_item(Item, Routine, false, Context, at);
 }
 
 VOID WdmIoFreeWorkItem(PIO_WORKITEM Item, WDM_SITE at)
@@ -172,5 +191,6 @@ void tell_work_left(int driver)
 {
     for (PIO_WORKITEM i = items; i; i = i->next_made)
         if (i->driver == driver)
-            left_behind(i->queued ? "the work item, in the queue," : "the work item", "IoAllocateWorkItem", i->made);
+            left_behind(i->queued ? "the work item, in the queue," : "the work item",
+                        i->plain ? "ExQueueWorkItem" : i->is_own ? "IoInitializeWorkItem" : "IoAllocateWorkItem", i->made);
 }

@@ -1,7 +1,7 @@
-/* ntintsafe.h: plain types; the checked sums are not there. */
+/* ntintsafe.h: what `#include <ntintsafe.h>` finds. */
 #ifndef NTINTSAFE_H
 #define NTINTSAFE_H
 
-#include "wdm_base.h"
+#include "wdm_safe.h"
 
 #endif

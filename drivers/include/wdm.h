@@ -7,6 +7,8 @@
 #include "wdm_security.h"
 #include "wdm_trace.h"
 #include "wdm_guid.h"
+#include "wdm_bits.h"
+#include "wdm_share.h"
 #include "wdm_levels.h"
 
 #endif

@@ -259,9 +259,11 @@ VOID WdmIoReleaseRemoveLockAndWait(PIO_REMOVE_LOCK Lock, PVOID Tag, WDM_SITE at)
 #define IoReleaseRemoveLockAndWaitEx(lock, tag, size) ((void)(size), IoReleaseRemoveLockAndWait((lock), (tag)))
 
 /* Work items and a device's timer, run by threads of the host. */
-typedef struct _IO_WORKITEM *PIO_WORKITEM;
+typedef struct _IO_WORKITEM IO_WORKITEM, *PIO_WORKITEM;
 typedef VOID IO_WORKITEM_ROUTINE(PDEVICE_OBJECT DeviceObject, PVOID Context);
 typedef IO_WORKITEM_ROUTINE *PIO_WORKITEM_ROUTINE;
+typedef VOID IO_WORKITEM_ROUTINE_EX(PVOID IoObject, PVOID Context, PIO_WORKITEM Item);
+typedef IO_WORKITEM_ROUTINE_EX *PIO_WORKITEM_ROUTINE_EX;
 typedef VOID IO_TIMER_ROUTINE(PDEVICE_OBJECT DeviceObject, PVOID Context);
 typedef IO_TIMER_ROUTINE *PIO_TIMER_ROUTINE;
 typedef enum { CriticalWorkQueue, DelayedWorkQueue, HyperCriticalWorkQueue, NormalWorkQueue } WORK_QUEUE_TYPE;
@@ -272,6 +274,22 @@ VOID WdmIoQueueWorkItem(PIO_WORKITEM Item, PIO_WORKITEM_ROUTINE Routine, PVOID C
     ((void)(queue), WdmIoQueueWorkItem((item), (routine), (context), WDM_HERE))
 VOID WdmIoFreeWorkItem(PIO_WORKITEM Item, WDM_SITE at);
 #define IoFreeWorkItem(item) WdmIoFreeWorkItem((item), WDM_HERE)
+VOID WdmIoQueueWorkItemEx(PIO_WORKITEM Item, PIO_WORKITEM_ROUTINE_EX Routine, PVOID Context, WDM_SITE at);
+#define IoQueueWorkItemEx(item, routine, queue, context) \
+    ((void)(queue), WdmIoQueueWorkItemEx((item), (routine), (context), WDM_HERE))
+ULONG IoSizeofWorkItem(VOID);
+VOID WdmIoInitializeWorkItem(PVOID Object, PIO_WORKITEM Item, WDM_SITE at);
+#define IoInitializeWorkItem(object, item) WdmIoInitializeWorkItem((object), (item), WDM_HERE)
+VOID WdmIoUninitializeWorkItem(PIO_WORKITEM Item, WDM_SITE at);
+#define IoUninitializeWorkItem(item) WdmIoUninitializeWorkItem((item), WDM_HERE)
+typedef VOID WORKER_THREAD_ROUTINE(PVOID Parameter);
+typedef WORKER_THREAD_ROUTINE *PWORKER_THREAD_ROUTINE;
+typedef struct _WORK_QUEUE_ITEM { LIST_ENTRY List; PWORKER_THREAD_ROUTINE WorkerRoutine; PVOID Parameter; } WORK_QUEUE_ITEM,
+    *PWORK_QUEUE_ITEM;
+#define ExInitializeWorkItem(item, routine, parameter) \
+    ((void)(*(item) = (WORK_QUEUE_ITEM){ .WorkerRoutine = (routine), .Parameter = (parameter) }))
+VOID WdmExQueueWorkItem(PWORK_QUEUE_ITEM Item, WDM_SITE at);
+#define ExQueueWorkItem(item, queue) ((void)(queue), WdmExQueueWorkItem((item), WDM_HERE))
 NTSTATUS IoInitializeTimer(PDEVICE_OBJECT Device, PIO_TIMER_ROUTINE Routine, PVOID Context);
 VOID IoStartTimer(PDEVICE_OBJECT Device);
 VOID IoStopTimer(PDEVICE_OBJECT Device);

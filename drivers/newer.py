@@ -1,0 +1,50 @@
+"""What drivers of the last ten years call: each file of newer/ and each of its stacks right, and made wrong. A comment says
+what is told, and by which run: `told 3: Rule`, or `told 5, by --every-order: Rule`. Who builds with -DWRONG=3 gets it."""
+
+import os
+import re
+
+HERE = os.path.dirname(os.path.abspath(__file__))
+TOLD = re.compile(r"/\* told (\d+)(?:, by ([-\w ]+))?: (\w+) \*/")
+STACKS = []
+
+
+def files():
+    """Returns the paths of all files, below this folder."""
+    return [f"newer/{it}" for it in sorted(os.listdir(HERE + "/newer")) if it.endswith(".c")] + [f"stacks/{it}.c" for it in STACKS]
+
+
+def mistakes_in(path):
+    """Gives for each mistake its number, the run that tells it, its rule, and the lines at which it may be told."""
+    found = {}
+    with open(f"{HERE}/{path}", encoding="utf-8") as it:
+        for number, line in enumerate(it, 1):
+            for wrong, run, rule in TOLD.findall(line):
+                found.setdefault((int(wrong), run, rule), []).append(f"{os.path.basename(path)}:{number}")
+    return sorted(found.items())
+
+
+def right(bench, path, *words):
+    """It is clean in such a run."""
+    made = bench.ran(*words, f"{HERE}/{path}")
+    said = made.stderr + made.stdout
+    well = made.returncode in (0, 3) and not re.search("FAULT|STOPPED|NOT CLEAN", said)
+    yield f"newer: {path} {' '.join(words)}".strip(), None if well else said[-600:]
+
+
+def wrong(bench, path, number, run, rule, lines):
+    """What is wrong is told first, by its rule and at its line."""
+    made = bench.ran(f"--cflag=-DWRONG={number}", *run.split(), f"{HERE}/{path}")
+    said = made.stderr + made.stdout
+    first = next((it for it in said.splitlines() if re.search("FAULT|STOPPED", it)), "nothing is told")
+    well = re.search(rf"FAULT {rule}\b", first) and any(f"{it} in " in first for it in lines) and made.returncode
+    yield f"newer: {path}, {number}: {rule}", None if well else f"it isn't {rule} at {' or '.join(lines)}: {first}"
+
+
+def tests(bench):
+    """Returns the tests: of each a name, and a call that gives names and complaints."""
+    found = [(f"newer {it}", lambda it=it: right(bench, it)) for it in files()]
+    found += [(f"newer {it} verified", lambda it=it: right(bench, it, "--verify", "--minutes", "0.4", "--processes", "1"))
+              for it in files()]
+    return found + [(f"newer {it} wrong {key[0]}", lambda it=it, key=key, lines=lines: wrong(bench, it, *key, lines))
+                    for it in files() for key, lines in mistakes_in(it)]
