@@ -13,7 +13,7 @@ GROUPS = [
     (r"^(Scsi|SCSI|Srb|SRB|StorPort|ScsiPort|ATA_)", "storage ports"),
     (r"^(Io(Read|Write|Set)Partition|IoVerifyVolume|IoRaise.*HardError|Disk|DISK_|PARTITION|FsRtl|FSRTL|Cc[A-Z]|FILE_|File|"
      r"IOCTL_(DISK|STORAGE|VOLUME|MOUNT)|STORAGE_|MOUNTMGR|MOUNTDEV|VPB|Zw(Query|Set).*File)", "files and disks"),
-    (r"(Dma|DMA|Adapter|ADAPTER|ScatterGather|SCATTER_GATHER)", "DMA"),
+    (r"(Dma|DMA|Adapter|ADAPTER|ScatterGather|SCATTER_GATHER|Map(Transfer|Registers)|CommonBuffer)", "DMA"),
     (r"^(Se[A-Z]|Rtl.*(Sid|Acl|Ace|SecurityDescriptor)|SECURITY_|SID|P?ACL|ACCESS_|PSID|TOKEN_)", "security"),
     (r"^(Ps|Zw.*Process|Zw.*Thread|Zw.*Token|PEPROCESS|PROCESS|IMAGE_|CLIENT_)", "processes"),
     (r"^(Po|PO_|POWER)", "power"),

@@ -6,7 +6,7 @@ import re
 
 HERE = os.path.dirname(os.path.abspath(__file__))
 TOLD = re.compile(r"/\* told (\d+)(?:, by ([-\w ]+))?: (\w+) \*/")
-STACKS = []
+STACKS = ["clock"]
 
 
 def files():

@@ -16,7 +16,7 @@ static const Check checks[] = {
     { "PagedAtDispatch", "0xD1", "Force IRQL Checking", "allocate it from nonpaged pool, or copy what is needed before" },
     { "PageableCode", "0xD1", "Making Drivers Pageable", "take it out of the section, or raise the level elsewhere" },
     { "Unprobed", "0x50", "Errors in Referencing User-Space Addresses", "probe it, or lock its pages by an MDL, first" },
-    { "IrqlTooLow", "0xC4/0x41", "KeAcquireSpinLockAtDpcLevel function", "call KeAcquireSpinLock" },
+    { "IrqlTooLow", "0xC4/0x41", "KeAcquireSpinLockAtDpcLevel function", "call the one that raises the level" },
     { "IrqlReturn", "0xC9/0x5", "Managing Hardware Priorities", "put the level back on each way out" },
     { "RaiseLower", "0xC4/0x30", "KeRaiseIrql function", "raise upwards, and lower to what the raise gave" },
     { "ForwardedAtBadIrql", "rule ForwardedAtBadIrql", "Dispatch Routines and IRQLs",

@@ -25,7 +25,7 @@ void check_pageable_call(const Call *c);
 void check_pageable_routine(const Frame *f);
 
 /* locks.c: who holds which lock, and in which order locks are taken. */
-typedef enum { SPIN_LOCK, CANCEL_LOCK, FAST_LOCK, MUTEX_OBJECT } LockKind;
+typedef enum { SPIN_LOCK, CANCEL_LOCK, FAST_LOCK, MUTEX_OBJECT, SHARED_SPIN, PUSH_LOCK } LockKind;
 typedef struct { const void *lock; LockKind kind; WDM_SITE at; KIRQL before; const Frame *frame; int again; } Hold;
 bool lock_wanted(const void *lock, LockKind kind);
 void lock_taken(const void *lock, LockKind kind, WDM_SITE at, KIRQL before);
@@ -33,6 +33,8 @@ bool lock_given_back(const void *lock, LockKind kind);
 void check_release_level(const void *lock, KIRQL irql);
 const Hold *held_spin_lock(void);
 void tell_locks_kept(const Frame *f);
+void drop_shared_spin(const void *lock); /* shared_spins.c */
+void drop_push_lock(const void *lock);   /* push_locks.c */
 void check_thread_end(void); /* takes G and gives it back */
 void forget_locks(const void *from, size_t size, const char *why);
 void forget_remove_locks(const void *from, size_t size, const char *why); /* remove_locks.c */
@@ -93,7 +95,9 @@ bool waited_in(const void *from, size_t size, WDM_SITE *at); /* waits.c */
 void check_gone(const void *from, size_t size, const char *what);
 PKTIMER take_timer_in(const void *from, size_t size); /* work.c */
 PKDPC take_dpc_in(const void *from, size_t size);
+bool dpc_is_on_its_way(const KDPC *dpc); /* it is queued, or runs */
 void check_work_gone(const void *from, size_t size, const char *what); /* more_work.c */
+void check_given_gone(const void *from, size_t size, const char *what); /* given.c */
 
 /* watching.c, completions.c */
 void watch_sent(Packet *p, int by, uint64_t use);

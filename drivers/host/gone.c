@@ -16,6 +16,7 @@ void check_gone(const void *from, size_t size, const char *what)
     if (waited_in(from, size, &at))
         broken("UsedInFreedMemory", NULL, "a thread waits since %s, for an object in the %s", place(at), what);
     check_work_gone(from, size, what);
+    check_given_gone(from, size, what);
     forget_locks(from, size, what);
     forget_remove_locks(from, size, what);
 }

@@ -36,6 +36,7 @@ void tell_left(int driver)
 {
     tell_devices(driver);
     tell_own_packets(driver);
+    tell_given_left(driver);
     tell_work_left(driver);
     tell_timers_left(driver);
     tell_threads_left(driver);

@@ -23,10 +23,10 @@ static int n_orders;
 const char *lock_kind(LockKind kind)
 {
     return kind == SPIN_LOCK ? "spin lock" : kind == CANCEL_LOCK ? "cancel spin lock" :
-        kind == FAST_LOCK ? "fast mutex" : "mutex";
+        kind == FAST_LOCK ? "fast mutex" : kind == SHARED_SPIN ? "EX_SPIN_LOCK" : kind == PUSH_LOCK ? "push lock" : "mutex";
 }
 
-static bool is_spin(const Hold *h) { return h->kind == SPIN_LOCK || h->kind == CANCEL_LOCK; }
+static bool is_spin(const Hold *h) { return h->kind == SPIN_LOCK || h->kind == CANCEL_LOCK || h->kind == SHARED_SPIN; }
 
 static Hold *hold_of(int seat, const void *lock)
 {
@@ -226,7 +226,11 @@ void tell_locks_kept(const Frame *f)
         self.calls = c.up;
         take_out(mine, &mine->held[i]);
         touch(h.lock, SYNCS);
-        if (is_spin(&h))
+        if (h.kind == SHARED_SPIN)
+            drop_shared_spin(h.lock);
+        else if (h.kind == PUSH_LOCK)
+            drop_push_lock(h.lock);
+        else if (is_spin(&h))
             __atomic_store_n((PKSPIN_LOCK)h.lock, 0, __ATOMIC_SEQ_CST);
         else if (h.kind == MUTEX_OBJECT)
             release_object((DISPATCHER_HEADER *)h.lock);

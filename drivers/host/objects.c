@@ -140,6 +140,7 @@ NTSTATUS WdmZwClose(HANDLE Handle, WDM_SITE at)
     const ULONG_PTR i = (ULONG_PTR)Handle / 4 - 1;
     const bool is_open = i < MAX_HANDLES && handles[i].object;
     PVOID file = is_open && handles[i].type == files ? handles[i].object : NULL;
+    take_handle_back(Handle);
     if (is_open)
         handles[i].object = NULL;
     else

@@ -49,6 +49,8 @@ const char *none_taken(const Packet *p);
 void left_behind(const char *what, const char *call, WDM_SITE at);
 void tell_left(int driver);
 void tell_work_left(int driver);
+void tell_given_left(int driver); /* given.c */
+bool take_handle_back(HANDLE handle);
 void tell_timers_left(int driver);
 void tell_calls_left(int driver);
 void tell_threads_left(int driver);

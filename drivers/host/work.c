@@ -13,6 +13,7 @@ static PKDPC dpcs[MAX_DPCS];
 static int n_dpcs;
 static int n_processors, n_running; /* threads for deferred calls, and calls that run */
 static bool idles[MAX_PROCESSORS];
+static const KDPC *runs[MAX_PROCESSORS]; /* those that run */
 static _Atomic int n_armed; /* timers that will go off once */
 
 bool timers_armed(void) { return n_armed > 0; }
@@ -192,19 +193,24 @@ static Wait until_due(int number)
                    .on = &clock_changed, .patience = IDLES, .what = number ? "deferred calls" : "the clock" };
 }
 
+bool dpc_is_on_its_way(const KDPC *dpc) { return dpc->HostIsQueued || runs[0] == dpc || runs[1] == dpc; }
+
 static void run_dpc(void)
 {
     PKDPC d = dpcs[0];
+    const KDPC **const mine = &runs[runs[0] != NULL];
     PKDEFERRED_ROUTINE routine = d->DeferredRoutine;
     PVOID its = d->DeferredContext, one = d->SystemArgument1, two = d->SystemArgument2;
     memmove(dpcs, dpcs + 1, (size_t)--n_dpcs * sizeof *dpcs);
     d->HostIsQueued = FALSE;
     n_running++;
+    *mine = d;
     Frame f = { .kind = WORK, .fn = (void *)routine, .device = NOBODY, .settled = true, .irql = DISPATCH_LEVEL };
     run_work(&f, d->HostDriver);
     routine(d, its, one, two);
     work_done();
     n_running--;
+    *mine = NULL;
     tell_waiters(&host_settled);
 }
 

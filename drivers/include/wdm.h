@@ -9,6 +9,10 @@
 #include "wdm_guid.h"
 #include "wdm_bits.h"
 #include "wdm_share.h"
+#include "wdm_timers.h"
+#include "wdm_locks.h"
+#include "wdm_callbacks.h"
+#include "wdm_power.h"
 #include "wdm_levels.h"
 
 #endif

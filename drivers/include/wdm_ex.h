@@ -135,8 +135,7 @@ typedef struct _GENERAL_LOOKASIDE {
     POOL_TYPE Type;
     ULONG Tag;
     SIZE_T Bytes;
-} GENERAL_LOOKASIDE, NPAGED_LOOKASIDE_LIST, PAGED_LOOKASIDE_LIST, LOOKASIDE_LIST_EX, *PNPAGED_LOOKASIDE_LIST,
-    *PPAGED_LOOKASIDE_LIST, *PLOOKASIDE_LIST_EX;
+} GENERAL_LOOKASIDE, NPAGED_LOOKASIDE_LIST, PAGED_LOOKASIDE_LIST, *PNPAGED_LOOKASIDE_LIST, *PPAGED_LOOKASIDE_LIST;
 #define WDM_LOOKASIDE(list, allocate, release, pool, bytes, tag) \
     ((void)(*(list) = (GENERAL_LOOKASIDE){ (allocate), (release), (pool), (tag), (bytes) }))
 #define ExInitializeNPagedLookasideList(list, allocate, release, flags, bytes, tag, depth) \
@@ -157,6 +156,33 @@ typedef struct _GENERAL_LOOKASIDE {
 #define ExAllocateFromPagedLookasideList ExAllocateFromNPagedLookasideList
 #define ExFreeToPagedLookasideList ExFreeToNPagedLookasideList
 #define ExDeletePagedLookasideList ExDeleteNPagedLookasideList
+
+/* The same of Windows Vista and later, where the routines get their list. */
+typedef struct _LOOKASIDE_LIST_EX LOOKASIDE_LIST_EX, *PLOOKASIDE_LIST_EX;
+typedef PVOID ALLOCATE_FUNCTION_EX(POOL_TYPE Type, SIZE_T Bytes, ULONG Tag, PLOOKASIDE_LIST_EX List);
+typedef VOID FREE_FUNCTION_EX(PVOID Block, PLOOKASIDE_LIST_EX List);
+typedef ALLOCATE_FUNCTION_EX *PALLOCATE_FUNCTION_EX;
+typedef FREE_FUNCTION_EX *PFREE_FUNCTION_EX;
+struct _LOOKASIDE_LIST_EX {
+    PALLOCATE_FUNCTION_EX Allocate;
+    PFREE_FUNCTION_EX Free;
+    POOL_TYPE Type;
+    ULONG Tag, Flags;
+    SIZE_T Bytes;
+};
+#define EX_LOOKASIDE_LIST_EX_FLAGS_RAISE_ON_FAIL 1
+#define EX_LOOKASIDE_LIST_EX_FLAGS_FAIL_NO_RAISE 2
+NTSTATUS WdmExInitializeList(PLOOKASIDE_LIST_EX List, PALLOCATE_FUNCTION_EX Allocate, PFREE_FUNCTION_EX Free, POOL_TYPE Type,
+                             ULONG Flags, SIZE_T Bytes, ULONG Tag, WDM_SITE at);
+PVOID WdmExAllocateFromList(PLOOKASIDE_LIST_EX List, WDM_SITE at);
+VOID WdmExFreeToList(PLOOKASIDE_LIST_EX List, PVOID Block, WDM_SITE at);
+VOID WdmExDeleteList(PLOOKASIDE_LIST_EX List, BOOLEAN Deletes, WDM_SITE at);
+#define ExInitializeLookasideListEx(list, allocate, release, type, flags, bytes, tag, depth) \
+    ((void)(depth), WdmExInitializeList((list), (allocate), (release), (type), (flags), (bytes), (ULONG)(tag), WDM_HERE))
+#define ExAllocateFromLookasideListEx(list) WdmExAllocateFromList((list), WDM_HERE)
+#define ExFreeToLookasideListEx(list, block) WdmExFreeToList((list), (block), WDM_HERE)
+#define ExDeleteLookasideListEx(list) WdmExDeleteList((list), TRUE, WDM_HERE)
+#define ExFlushLookasideListEx(list) WdmExDeleteList((list), FALSE, WDM_HERE)
 
 /* Singly linked lists. */
 typedef struct _SLIST_ENTRY { struct _SLIST_ENTRY *Next; } SLIST_ENTRY, *PSLIST_ENTRY;

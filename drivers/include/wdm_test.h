@@ -101,6 +101,11 @@ VOID WdmUseFile(PFILE_OBJECT File);
    did. */
 BOOLEAN WdmRaiseInterrupt(ULONG Vector, WDM_SITE at);
 #define WdmInterrupt(vector) WdmRaiseInterrupt((vector), WDM_HERE)
+/* The vector of the line that each device of a bus has, for drivers that connect by it (IoConnectInterruptEx). */
+ULONG WdmLineOf(PDEVICE_OBJECT Pdo);
+
+/* A power setting has this value from now on: those who asked for it are called. */
+VOID WdmSetPowerSetting(LPCGUID Setting, const VOID *Value, ULONG Length);
 
 /* A value of the registry, by the whole path of its key (\Registry\Machine\..). A driver's own key, whose path
    DriverEntry gets, is \Registry\Machine\System\CurrentControlSet\Services\NAME. */
