@@ -18,7 +18,8 @@ A file with `main`, or with tests by WDM_TEST(NAME), is the test (include/wdm_te
 none, the host's own test runs: it starts the stack over bottom devices, sends and cancels requests, and removes it.
 
 What is built goes below drivers/out, or the folder that WDM_OUT names, in a folder that has the name of the first FILE and
-of its folder. A run of the same name waits for another one there."""
+of its folder. A run of the same name waits for another one there. Where `run` is installed, or may not write beside itself,
+that is below $XDG_CACHE_HOME/irp."""
 
 EPILOG = """examples:
   run mydriver.c                         one driver, tested by the host
@@ -134,6 +135,7 @@ def add_output(parser):
     group.add_argument("--strict", action="store_true", help="a situation of the host's test that wasn't made is a failure")
     group.add_argument("--junit", metavar="FILE", help="write what each run or test gave, for a test server")
     group.add_argument("--json", metavar="FILE", help="write the same, situations and what never ran, for a program")
+    group.add_argument("--sarif", metavar="FILE", help="write the faults and their places, for a tool that shows them in the source")
     group.add_argument("--tap", action="store_true", help="and print it as lines of the Test Anything Protocol")
     group.add_argument("--irpx", default=os.environ.get("IRPX"), help="the program that judges (IRPX, else bin/irpx)")
 

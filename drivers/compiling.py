@@ -1,4 +1,4 @@
-"""Compiles C files. An object of a file of this folder is kept below out/, by the text that the preprocessor makes of it and
+"""Compiles C files. An object of a file of this folder is kept (folders.py says where), by the text that the preprocessor makes of it and
 the words that it is compiled with: where both are as before, it is taken from there."""
 
 import contextlib
@@ -10,10 +10,11 @@ import subprocess
 import sys
 import threading
 
+import folders
 import missing
 
 HERE = os.path.dirname(os.path.abspath(__file__))
-KEPT = HERE + "/out/kept"
+KEPT = folders.OUT + "/kept"
 MOST = 2000  # objects that are kept; of more the older half goes
 
 

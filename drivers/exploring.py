@@ -87,7 +87,7 @@ class Exploration:
             is_out = report.facts.get("apart")
             state = ("apart", is_out) if is_out else ("unmade", NO_TIME) if made == 3 else ("made", "")
             self.found.covered.situate(words, state[1], state[0])
-        wrong = [report.facts.get("why", "illegal")] if made == 1 else []
+        wrong = [places.with_lines(report.facts.get("why", "illegal"), self.program)] if made == 1 else []
         self.found.cases.append(reporting.Case(words or "every order", time.monotonic() - began, wrong))
 
     def tell(self, report, quiet=False):

@@ -1,7 +1,12 @@
-"""What machines read of runs: a file of JUnit's, and lines of the Test Anything Protocol."""
+"""What machines read of runs: files of JUnit's, in JSON and in SARIF, and lines of the Test Anything Protocol."""
 
 import html
 import json
+import os
+import re
+import urllib.parse
+
+import folders
 
 
 class Case:
@@ -82,3 +87,78 @@ def tap_lines(cases):
         lines.append(f"{'not ok' if it.wrong else 'ok'} {number} - {it.name.replace('#', ' ')}")
         lines += [f"# {part}" for wrong in it.wrong for part in wrong.splitlines()]
     return lines
+
+
+FAULT = re.compile(r"(?:host: FAULT )?([A-Z]\w+)(?: \((.*?)\))?: (.*?)(?: \[before entry (\d+)\])?$")
+PLACE = re.compile(r"(?P<file>[^\s:;,()]+\.\w+):(?P<line>\d+)(?: \([^()]*\))?(?: in (?P<function>\w+))?")
+OTHER = "NotClean"  # the rule of what is wrong and has no line of the host's: a crash, an illegal record
+
+
+def headers_beside(sources):
+    """Returns the headers in the folders of the sources."""
+    above = sorted({os.path.dirname(it) or "." for it in sources})
+    return [os.path.join(at, it) for at in above for it in sorted(os.listdir(at)) if it.endswith(".h")]
+
+
+class Sources:
+    """The files that a run is made of, by the names that the host tells."""
+
+    def __init__(self, files):
+        self.first = files[0]
+        self.known = {os.path.basename(it): it for it in reversed(files + headers_beside(files))}
+
+    def physical(self, path, line=None):
+        """Returns a place in a file as SARIF has it: by the way from where `run` was called, if it is below."""
+        uri = os.path.relpath(path)
+        uri = "file://" + urllib.parse.quote(os.path.abspath(path)) if uri.startswith("..") else urllib.parse.quote(uri)
+        return {"artifactLocation": {"uri": uri}, **({"region": {"startLine": int(line)}} if line else {})}
+
+    def location(self, it):
+        """Returns where a place is that was told: in a driver, in a test or in the host."""
+        path = self.known.get(it["file"], f"{folders.HERE}/host/{it['file']}")
+        made = {"physicalLocation": self.physical(path, max(int(it["line"]), 1))}
+        return {**made, "logicalLocations": [{"name": it["function"], "kind": "function"}]} if it["function"] else made
+
+    def locations(self, told):
+        """Returns where a fault is, and the other places that its line has, each with what is said of it."""
+        places = list(PLACE.finditer(told))
+        main = next((it for it in places if it["file"] in self.known), None)
+        related, begin = [], 0
+        for it in places:
+            words, begin = re.split(r"[,;:()]", told[begin:it.start()])[-1].strip(), it.end()
+            if it is not main:
+                about = {"id": len(related) + 1, "message": {"text": words or "at"}}
+                related.append({**about, **self.location(it)})
+        return self.location(main) if main else {"physicalLocation": self.physical(self.first)}, related
+
+
+def results_of(cases, sources):
+    """Returns SARIF's results: one for each rule and place, with the runs that have it; and the rules, each once."""
+    results, rules = {}, {}
+    for case in cases:
+        faults = [it for it in map(FAULT.match, case.wrong) if it]
+        for line in [it[0] for it in faults] or case.wrong:
+            it = FAULT.match(line)
+            rule, known, told, entry = it.groups() if it else (OTHER, None, line, None)
+            rules.setdefault(rule, f"{rule} ({known})" if known else rule)
+            place, related = sources.locations(told)
+            made = results.setdefault((rule, json.dumps(place)), {
+                "ruleId": rule, "ruleIndex": list(rules).index(rule), "level": "error", "message": {"text": told},
+                "locations": [place], **({"relatedLocations": related} if related else {}), "occurrenceCount": 0,
+                "properties": {"runs": [], **({"entry": int(entry)} if entry else {})}})
+            made["occurrenceCount"] += 1
+            if case.name not in made["properties"]["runs"]:
+                made["properties"]["runs"].append(case.name)
+    return list(results.values()), [{"id": it, "shortDescription": {"text": text}} for it, text in rules.items()]
+
+
+def write_sarif(path, files, status, found):
+    """Writes the faults as tools for review read them: SARIF 2.1.0. `files` are the drivers' and the test's."""
+    results, rules = results_of(found.cases, Sources(files))
+    version = folders.release().get("version")
+    tool = {"name": "irp drive", **({"version": version} if version else {}), "rules": rules}
+    run = {"tool": {"driver": tool}, "columnKind": "utf16CodeUnits", "results": results,
+           "invocations": [{"executionSuccessful": True, "exitCode": status}]}
+    with open(path, "w", encoding="utf-8") as out:
+        json.dump({"$schema": "https://json.schemastore.org/sarif-2.1.0.json", "version": "2.1.0", "runs": [run]}, out, indent=1)
+        out.write("\n")
