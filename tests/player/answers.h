@@ -1,6 +1,7 @@
 /* answers.h: what the programs around the player share. Of each script they write an answer: the line `@ NUMBER HOW
    BYTES MADE PENDED OUTSIDE ADOPTED LOST`, then as many bytes of transcript, then a line with the replies of the steps.
-   HOW is how it ended, or `crash` or `hang`; the last four are the recorder's counts. */
+   HOW is how it ended, or `crash` or `hang`, where MADE is the place of the step that it comes from; the last four are
+   the recorder's counts. */
 #include "player.h"
 #include "recorder.h"
 #include <signal.h>
@@ -28,6 +29,7 @@ static void write_answer(const char *how, size_t made)
         printf("%llu ", (unsigned long long)replies[k]);
     printf("\n");
     fflush(stdout);
+    fprintf(stderr, "@ %ld\n", playing); /* what is said from here on comes from taking down */
     free(text);
 }
 
@@ -35,7 +37,7 @@ static void write_answer(const char *how, size_t made)
 static void end_early(const char *how)
 {
     IrpxAbandon();
-    write_answer(how, 0);
+    write_answer(how, PlayPlace());
     _Exit(CRASHED);
 }
 

@@ -3,7 +3,8 @@
 Numbers that stand for something (uses, routines, contexts, words above 32 bits, seats) may differ: what they stand for has
 to be the same all along. Looks, preparations and frees of what has ended aren't compared."""
 
-from playable import MOVES, is_refused, owner_after
+from conditions import is_refused
+from playable import MOVES, owner_after
 
 PREPARING = ("set_next", "copy_to_next", "set_routine")
 SHOWN = {0: "device", 3: "major", 4: "location", 6: "status", 7: "information", 8: "PendingReturned", 9: "cancel flag",
@@ -138,7 +139,7 @@ def compare(expected, lines, script, with_seats=False):
     """Raises Differs at the first difference of a record's lines. Returns how many entries were compared."""
     header, *recorded = [it for it in lines if "n" in it or "drivers" in it]
     it = Comparison(with_seats)
-    wanted = list(significant([it for it in expected if "call" in it]))
+    wanted = list(significant([it for it in expected if it and "call" in it]))
     got = list(significant(recorded))
     for it.place, (w, g) in enumerate(zip(wanted, got)):
         it.entry(w, g)

@@ -91,15 +91,19 @@ static VOID take_routines(FEED *f)
     }
 }
 
-/* A step that names a routine names one that is there. */
+/* A step that names a routine names one that is there; its condition names an earlier step. */
 static VOID take_step(FEED *f, PLAY_STEP *s)
 {
-    uint64_t *words[] = { &s->Do, &s->Seat, &s->By, &s->A, &s->B, &s->C, &s->D };
+    uint64_t *words[] = { &s->Do, &s->Seat, &s->By, &s->A, &s->B, &s->C, &s->D, &s->If.Place, &s->If.Kind, &s->If.Value };
     for (unsigned k = 0; k < sizeof words / sizeof *words; k++)
         *words[k] = take(f);
     s->Together = s->Do >> 8 & 1;
+    s->Refused = s->Do >> 9 & 1;
     s->Do &= 255;
-    if (s->Do >= DO_KINDS || s->Seat >= PLAY_SEATS ||
+    s->If.Not = s->If.Kind >> 8 & 1;
+    s->If.Kind &= 255;
+    if (s->Do >= DO_KINDS || s->Seat >= PLAY_SEATS || s->If.Kind >= IF_KINDS ||
+        s->If.Place > (uint64_t)(s - play.Steps) ||
         (s->Do == DO_SET_ROUTINE && (s->B == 0 || s->B > play.nCompletions)) ||
         (s->Do == DO_SET_CANCEL && s->B > play.nCancels))
         f->Bad = TRUE;

@@ -3,8 +3,9 @@
 import itertools
 
 from comparing import Differs, compare, significant
-from playable import is_refused
-from simulated import KINDS, Manager
+from conditions import is_refused
+from running import LEFT_OUT
+from simulated import KINDS, Manager, word_of
 
 EQUAL, NEW = "equal", "NEW"
 
@@ -18,8 +19,9 @@ def first_difference(expected, lines, script, with_seats=False):
     return None
 
 
-def simulated(script, ops, switches, made):
-    it = Manager(script, frozenset(switches))
+def simulated(script, ops, switches, made, answered=()):
+    """Returns the entries of a simulation. `answered` has what the manager's remove locks answered, at their steps' places."""
+    it = Manager(script, frozenset(switches), answered)
     it.run(ops[:made])
     return it.entries
 
@@ -29,7 +31,7 @@ def explained(script, ops, record, with_seats=False):
     ` + `, or NEW."""
     for n in range(len(KINDS) + 1):
         for some in itertools.combinations(KINDS, n):
-            entries = simulated(script, ops, some, record.made)
+            entries = simulated(script, ops, some, record.made, record.replies)
             if not first_difference(entries, record.lines, script, with_seats):
                 return " + ".join(some) or EQUAL
     return NEW
@@ -54,25 +56,17 @@ def kind_of_made(made, record, with_seats=False):
     """As `kind_of`, of a script made by chance, which has no transcript of irpx: the simulation stands for it."""
     if record is None:
         return NEW, "nothing came back"
-    first = first_difference(simulated(made.script, made.ops, (), record.made), record.lines, made.script, with_seats)
+    first = first_difference(simulated(made.script, made.ops, (), record.made, record.replies), record.lines, made.script, with_seats)
     kind = explained(made.script, made.ops, record, with_seats)
     return (NEW, f"it ended early: {record.how}") if kind == EQUAL and record.how != "done" else (kind, first)
-
-
-def reply_word(reply):
-    """Returns the number that the player writes for a reply of the model."""
-    if not isinstance(reply, dict):
-        return 1 if reply == "yes" else 0
-    key, value = next(iter(reply.items()))
-    if key == "previous":
-        return 0 if value is None else value + 1
-    return {"status": value, "device": value, "cancelled": value is True and 1 or 0}.get(key, 0)
 
 
 def wrong_reply(playable, record):
     """Returns what a step was answered otherwise by the player's own account, which looks at no transcript; or None."""
     for k, (made, got) in enumerate(zip(playable.expected, record.replies)):
-        if not is_refused(made["reply"]) and reply_word(made["reply"]) != got:
+        if (got == LEFT_OUT) != (made is None):
+            return f"step {k}: its condition is met otherwise than in the model"
+        if made and not is_refused(made["reply"]) and word_of(made["reply"]) != got:
             return f"step {k}: {made['reply']} wanted, the player was answered {got}"
     return None
 

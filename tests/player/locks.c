@@ -18,7 +18,22 @@ static VOID NTAPI remover(PVOID Context)
     PsTerminateSystemThread(STATUS_SUCCESS);
 }
 
-/* That the removal has begun shows by an acquire that fails. */
+static BOOLEAN has_come_back(unsigned k, LONG milliseconds)
+{
+    LARGE_INTEGER time = { .QuadPart = -10000ll * milliseconds };
+    return KeWaitForSingleObject(&play.Removed[k], Executive, KernelMode, FALSE, &time) == STATUS_SUCCESS;
+}
+
+static BOOLEAN may_acquire(unsigned k)
+{
+    if (!NT_SUCCESS(IoAcquireRemoveLock(&play.Locks[k], &play.Locks[k])))
+        return FALSE;
+    IoReleaseRemoveLock(&play.Locks[k], &play.Locks[k]);
+    return TRUE;
+}
+
+/* That the removal has begun shows by an acquire that fails. Where the call has come back, and acquires go on succeeding,
+   the manager has refused it. */
 static BOOLEAN begin_remove(unsigned k, uint64_t tag)
 {
     HANDLE thread;
@@ -27,8 +42,12 @@ static BOOLEAN begin_remove(unsigned k, uint64_t tag)
         return FALSE;
     ZwClose(thread);
     play.HasRemover[k] = TRUE;
-    while (NT_SUCCESS(IoAcquireRemoveLock(&play.Locks[k], &play.Locks[k]))) {
-        IoReleaseRemoveLock(&play.Locks[k], &play.Locks[k]);
+    while (may_acquire(k)) {
+        if (has_come_back(k, 0) && may_acquire(k)) {
+            play.HasRemover[k] = FALSE;
+            KeClearEvent(&play.Removed[k]);
+            return FALSE;
+        }
         PlayPause(1);
     }
     PlayPause(2); /* it gives its reference back just behind that, and nothing says so */
@@ -65,9 +84,7 @@ static uint64_t acquire(unsigned k, uint64_t tag)
 
 static uint64_t drained(unsigned k)
 {
-    const LONG patience = play.HasRemover[k] && !count_held(k) ? PATIENT : IMPATIENT;
-    LARGE_INTEGER time = { .QuadPart = -10000ll * patience };
-    return KeWaitForSingleObject(&play.Removed[k], Executive, KernelMode, FALSE, &time) == STATUS_SUCCESS;
+    return has_come_back(k, play.HasRemover[k] && !count_held(k) ? PATIENT : IMPATIENT);
 }
 
 BOOLEAN PlayOnLocks(const PLAY_STEP *Step, uint64_t *Reply)

@@ -1,6 +1,8 @@
 """Makes scripts by chance, whose steps nobody refuses: a simulation of the manager says what may be done next. So more
 happens in such a script than in those of tests/random_scripts.py, which also try refusals."""
 
+from collections import Counter
+
 from playable import OPS, RULES, Playable, number_routines, setting_words
 from simulated import Manager
 
@@ -29,7 +31,7 @@ class Made(Playable):
                        "cancels": self.cancels, "dispatches": self.dispatches, "drivers": self.drivers,
                        "setup": [], "steps": []}
         self.routines, self.sim = number_routines(self.script), Manager(self.script, switches)
-        self.ops, self.sizes, self.left_out = [], [], 0
+        self.ops, self.sizes, self.left_out = [], [], Counter()
         self.tower()
         self.n_setup = len(self.ops)
         self.script["setup"], self.script["steps"] = self.script["steps"], []

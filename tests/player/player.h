@@ -33,6 +33,9 @@ typedef BOOLEAN PLAY_LOAD(unsigned Number, PDRIVER_INITIALIZE Entry);
 PLAY_END PlayScript(const uint64_t *Words, size_t Count, PLAY_THREADS Threads, PLAY_LOAD *Load, uint64_t *Replies,
                     size_t *Made);
 
+/* The place of the step that is made now, or was made last. */
+size_t PlayPlace(VOID);
+
 /* Afterwards, once the transcript has been read: gives everything back, behind the recorder's back. */
 VOID PlayTakeDown(VOID);
 

@@ -64,8 +64,9 @@ class Record:
         return self.replies.count(LEFT_OUT)
 
 
-def read_answers(out):
-    """Returns the records of a player's answers (answers.h), by the scripts' numbers."""
+def read_answers(out, first_only=False):
+    """Returns the records of a player's answers (answers.h), by the scripts' numbers. Of two answers of one script, as where
+    it can't be taken down, the second counts, or the first."""
     at, found = 0, {}
     while at < len(out):
         end = out.index(b"\n", at)
@@ -76,7 +77,8 @@ def read_answers(out):
         text = out[end + 1:end + 1 + n].decode()
         stop = out.find(b"\n", end + 1 + n)
         replies = [int(it) for it in out[end + 1 + n:stop].split()]
-        found[number] = Record(how, text, made, replies, [int(it) for it in words[5:9]])
+        if not first_only or number not in found:
+            found[number] = Record(how, text, made, replies, [int(it) for it in words[5:9]])
         at = stop + 1
     return found
 

@@ -14,7 +14,7 @@ static VOID run_at_once(unsigned seat)
         made = (made || !s->Together) && PlayIsThere(s);
         const PLAY_END end = made ? PlayStep(s, &play.Replies[k]) : PLAY_DONE;
         if (!made || end == PLAY_PARTED)
-            play.Replies[k] = ~0ull; /* left out: another seat was faster, or slower */
+            play.Replies[k] = PLAY_LEFT_OUT; /* another seat was faster, or slower */
         else if (end != PLAY_DONE) {
             play.End = end;
             return;

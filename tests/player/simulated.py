@@ -2,6 +2,7 @@
 manager. With all switches off it makes the model's entries. It is no second proof: it says what the whole of a script gives
 by a known difference, and so looks behind the first illegal entry."""
 
+from conditions import is_met
 from playable import ON_LOCKS, OPS, number_routines
 
 PENDING, CANCELLED, INVALID = 259, 3221225760, 3221225488
@@ -15,6 +16,16 @@ KINDS = {
     LOST_MARK: ("a-pending-mark-is-lost-where-no-routine-is-asked", "pending_mark_passes_up"),
     NO_DISPATCH: ("a-kept-packet-meets-no-dispatch", "information_where_no_dispatch_is"),
 }
+
+
+def word_of(reply):
+    """Returns the number that the player writes for a reply of the model."""
+    if not isinstance(reply, dict):
+        return 1 if reply == "yes" else 0
+    key, value = next(iter(reply.items()))
+    if key == "previous":
+        return 0 if value is None else value + 1
+    return {"status": value, "device": value, "cancelled": value is True and 1 or 0}.get(key, 0)
 
 
 class Parted(Exception):
@@ -45,21 +56,31 @@ class Packet:
 class Manager:
     """A manager that makes one operation of the player after the other, and keeps the entries."""
 
-    def __init__(self, script, switches=frozenset()):
-        self.script, self.switches = script, switches
+    def __init__(self, script, switches=frozenset(), answered=()):
+        self.script, self.switches, self.answered = script, switches, answered
         self.tables = [dict(map(tuple, it)) for it in script["drivers"]]
         self.routines = number_routines(script)
         self.names = {place: name for name, place in self.routines.items()}
-        self.devices, self.packets, self.next_use, self.entries = [], {}, 1, []
+        self.devices, self.packets, self.next_use, self.entries, self.replies = [], {}, 1, [], []
 
     def run(self, ops):
         """Returns how many operations were made."""
         for k, op in enumerate(ops):
             try:
-                self.step(op)
+                self.replies.append(self.conditioned(op, k))
             except Parted:
                 return k
         return len(ops)
+
+    def conditioned(self, op, k):
+        """Makes one operation if its condition is met. Returns its reply, None where it wasn't made."""
+        if not is_met(op, self.replies):
+            return None
+        n = len(self.entries)
+        self.step(op)
+        if len(self.entries) > n:
+            return word_of(self.entries[-1]["reply"])
+        return self.answered[k] if k < len(self.answered) else 0
 
     # Unwinding.
 
@@ -164,7 +185,7 @@ class Manager:
 
     def step(self, op):
         """Makes one operation. Raises Parted where it can't."""
-        name, seat, by, a, b, c, d = OPS[op[0] & 255], *op[1:]
+        name, seat, by, a, b, c, d = OPS[op[0] & 255], *op[1:7]
         if name in ON_LOCKS:
             return
         if name in ("create_device", "attach", "detach", "delete"):

@@ -18,9 +18,14 @@ typedef struct { uint64_t Kind, Status, Information, Cancel; PLAY_SETTING Set; }
 typedef enum { DO_CREATE, DO_ATTACH, DO_DETACH, DO_DELETE, DO_ALLOCATE, DO_FREE, DO_REUSE, DO_SET_NEXT, DO_COPY,
                DO_SKIP, DO_SET_ROUTINE, DO_MARK, DO_CALL, DO_COMPLETE, DO_SET_CANCEL, DO_CANCEL, DO_ACQUIRE, DO_RELEASE,
                DO_BEGIN_REMOVE, DO_DRAINED, DO_KINDS } PLAY_DO;
+/* Whether the step of this place was made, and answered so (Not: otherwise). The order of the kinds is that of IFS in
+   playable.py. */
+typedef enum { IF_ANY, IF_NEVER, IF_EQUALS, IF_SUCCESS, IF_SOME, IF_KINDS } PLAY_IF_KIND;
+typedef struct { uint64_t Place, Kind, Not, Value; } PLAY_IF; /* Place: and 1; 0 for no condition */
 /* By: a device and 2, 1 for the originator, 0 for nobody. Together (bit 8 of Do in the feed): where the seats run at
-   once, the step is made only if the one before it of its seat was. */
-typedef struct { uint64_t Do, Seat, By, A, B, C, D, Together; } PLAY_STEP;
+   once, the step is made only if the one before it of its seat was. Refused (bit 9): the model refuses the step, and it
+   is made all the same, by whomever. */
+typedef struct { uint64_t Do, Seat, By, A, B, C, D, Together, Refused; PLAY_IF If; } PLAY_STEP;
 
 typedef struct {
     LONG Number;
@@ -70,9 +75,10 @@ VOID PlayFinish(PIRP Irp, NTSTATUS Status, ULONG_PTR Information);
 VOID PlaySetRoutine(PIRP Irp, const PLAY_SETTING *Set);
 VOID PlayNumberPacket(PIRP Irp, uint64_t Number);
 
-/* steps.c: whether what the step works on is where the model has it; makes it. */
+/* steps.c: whether what the step works on is where the model has it; makes it, if its condition is met. */
 BOOLEAN PlayIsThere(const PLAY_STEP *Step);
 PLAY_END PlayStep(const PLAY_STEP *Step, uint64_t *Reply);
+#define PLAY_LEFT_OUT (~0ull) /* the reply of a step that wasn't made */
 
 /* locks.c */
 BOOLEAN PlayOnLocks(const PLAY_STEP *Step, uint64_t *Reply);

@@ -50,9 +50,11 @@ static BOOLEAN attach(PDEVICE_OBJECT device, PDEVICE_OBJECT to, uint64_t *reply)
 
 static VOID detach(uint64_t lower, uint64_t *reply)
 {
-    *reply = (uint64_t)PlayExtension(play.Above[lower])->Number;
-    PlayExtension(play.Above[lower])->Lower = NULL;
-    play.Above[lower] = NULL;
+    if (play.Above[lower]) {
+        *reply = (uint64_t)PlayExtension(play.Above[lower])->Number;
+        PlayExtension(play.Above[lower])->Lower = NULL;
+        play.Above[lower] = NULL;
+    }
     IoDetachDevice(play.Devices[lower]);
 }
 
@@ -122,8 +124,23 @@ static BOOLEAN is_packet_there(const PLAY_STEP *s)
     const PLAY_PACKET *p = &play.Packets[s->A];
     if (s->Do == DO_ALLOCATE)
         return !p->Irp;
-    return p->Irp && (s->By == 0 || p->Owner == (LONG)s->By - 2) &&
+    return p->Irp && (s->By == 0 || s->Refused || p->Owner == (LONG)s->By - 2) &&
         (s->Do != DO_CALL || (s->B < play.nDevices && play.Devices[s->B]));
+}
+
+static BOOLEAN is_met(const PLAY_IF *c)
+{
+    const uint64_t reply = c->Place ? play.Replies[c->Place - 1] : 0;
+    BOOLEAN is_so = c->Kind == IF_ANY;
+    if (reply == PLAY_LEFT_OUT)
+        return FALSE;
+    if (c->Kind == IF_EQUALS)
+        is_so = reply == c->Value;
+    else if (c->Kind == IF_SUCCESS)
+        is_so = NT_SUCCESS((NTSTATUS)reply);
+    else if (c->Kind == IF_SOME)
+        is_so = reply != 0;
+    return is_so != (c->Not != 0);
 }
 
 BOOLEAN PlayIsThere(const PLAY_STEP *Step)
@@ -132,20 +149,31 @@ BOOLEAN PlayIsThere(const PLAY_STEP *Step)
     switch (s->Do) {
     case DO_CREATE: return TRUE;
     case DO_ATTACH: return s->A < play.nDevices && s->B < play.nDevices && play.Devices[s->A] && play.Devices[s->B];
-    case DO_DETACH: return s->A < play.nDevices && play.Devices[s->A] && play.Above[s->A];
+    case DO_DETACH: return s->A < play.nDevices && play.Devices[s->A] && (play.Above[s->A] || s->Refused);
     case DO_DELETE: return s->A < play.nDevices && play.Devices[s->A] != NULL;
     case DO_ACQUIRE: case DO_RELEASE: case DO_BEGIN_REMOVE: case DO_DRAINED: return s->A < play.nLocks;
     default: return is_packet_there(s);
     }
 }
 
+static BOOLEAN make(const PLAY_STEP *s, uint64_t *reply)
+{
+    return s->Do <= DO_DELETE ? on_devices(s, reply) : s->Do >= DO_ACQUIRE ? PlayOnLocks(s, reply) : on_packets(s, reply);
+}
+
 PLAY_END PlayStep(const PLAY_STEP *Step, uint64_t *Reply)
 {
+    if (!is_met(&Step->If)) {
+        *Reply = PLAY_LEFT_OUT;
+        return PLAY_DONE;
+    }
     if (!PlayIsThere(Step))
         return PLAY_PARTED;
-    if (Step->Do <= DO_DELETE)
-        return on_devices(Step, Reply) ? PLAY_DONE : PLAY_NO_DEVICE;
-    if (Step->Do >= DO_ACQUIRE)
-        return PlayOnLocks(Step, Reply) ? PLAY_DONE : PLAY_PARTED;
-    return on_packets(Step, Reply) ? PLAY_DONE : PLAY_PARTED;
+    play.Now = Step;
+    if (make(Step, Reply))
+        return PLAY_DONE;
+    *Reply = PLAY_LEFT_OUT;
+    return Step->Refused ? PLAY_DONE : Step->Do <= DO_DELETE ? PLAY_NO_DEVICE : PLAY_PARTED;
 }
+
+size_t PlayPlace(VOID) { return play.Now ? (size_t)(play.Now - play.Steps) : 0; }

@@ -3,6 +3,7 @@ differences, planted in the host, is told by its name, and another mistake as NE
 
 IRPX names the program that judges. It prints what was wrong, and `tried: COUNT WRONG KIND` for each kind."""
 
+import copy
 import glob
 import os
 import random
@@ -12,11 +13,13 @@ import tempfile
 sys.dont_write_bytecode = True
 sys.path.insert(0, os.path.dirname(os.path.abspath(__file__)))
 import building  # noqa: E402 (the path is set above)
+import conditions  # noqa: E402
 import kinds  # noqa: E402
 import making  # noqa: E402
 import running  # noqa: E402
 import scripts  # noqa: E402
 import simulated  # noqa: E402
+import trying  # noqa: E402
 
 sys.path.insert(0, building.TOP + "/tests")
 import random_scripts  # noqa: E402
@@ -44,7 +47,7 @@ class Bench:
     """What was tried, by kind."""
 
     def __init__(self):
-        self.model, self.manager, self.tried = running.Model(), running.Manager(), {}
+        self.model, self.manager, self.tried, self.room = running.Model(), running.Manager(), {}, None
 
     def count(self, kind, name, wrong):
         done, bad = self.tried.get(kind, (0, 0))
@@ -140,6 +143,44 @@ def try_planted(bench, room):
         bench.count("planted mistakes that are told", f"mistake {k}", wrong)
 
 
+def try_refused(bench):
+    """What the host does with steps that the model refuses is what the page's table says."""
+    page, seen = trying.page_rows(), trying.columns(["host"], bench.room)
+    for row, cells in seen.items():
+        wanted = page.get(row.what)
+        bench.count("refused steps", row.what, "no row" if not wanted else wanted[1] != row.refusal and "another refusal" or
+                    wanted[3] != cells["host"] and f"the page says {wanted[3]}, the host: {cells['host']}")
+    bench.count("refused steps", "the page", [it for it in page if it not in {row.what for row in seen}])
+
+
+def turned(playable, k):
+    """Returns what is played with one condition turned round."""
+    it, op = copy.copy(playable), playable.ops[k]
+    it.ops = [*playable.ops[:k], (*op[:8], op[8] ^ conditions.NOT, op[9]), *playable.ops[k + 1:]]
+    return it
+
+
+def try_conditions(bench):
+    """The player evaluates conditions by what the manager answers: with one of them turned round, it passes over the same
+    steps as the simulation, up to where that would work on what isn't there."""
+    many = [(it, k, turned(it.playable, k)) for it in map(lambda path: scripts.read(path, bench.model), conditioned())
+            for k, op in enumerate(it.playable.ops) if op[7]]
+    for (script, k, p), record in zip(many, bench.manager.play([it.feed() for _, _, it in many])):
+        simulation = simulated.Manager(p.script, answered=record.replies if record else ())
+        n = simulation.run(p.ops)
+        made = [it != running.LEFT_OUT for it in record.replies[:n]] if record else []
+        wrong = made != [it is not None for it in simulation.replies] and f"made: {made}, the simulation: {simulation.replies}"
+        bench.count("conditions turned round", f"{os.path.basename(script.name)}, step {k}", wrong)
+
+
+def conditioned():
+    """Yields the examples that have conditions."""
+    for path in sorted(glob.glob(EXAMPLES + "/*/*.script")):
+        with open(path, encoding="utf-8") as it:
+            if '"if"' in it.read():
+                yield path
+
+
 def try_rows(bench):
     """Each known difference has its section and its script."""
     with open(building.TOP + "/docs/PRACTICE.md", encoding="utf-8") as it:
@@ -158,7 +199,8 @@ def main():
         print(f"player: {why}\ntried: 1 1 builds of the player")
         return 1
     with tempfile.TemporaryDirectory() as room:
-        for it in (try_rows, try_examples, try_refusing, try_made, try_simulation):
+        bench.room = room
+        for it in (try_rows, try_refused, try_conditions, try_examples, try_refusing, try_made, try_simulation):
             it(bench)
         try:
             try_planted(bench, room)
