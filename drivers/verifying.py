@@ -12,6 +12,7 @@ import time
 
 import covering
 import reporting
+import usage
 
 SEEDS_OF_REFUSALS = 4
 RUNS_A_PROCESSOR = 2  # side by side: a run waits more than it works
@@ -227,7 +228,7 @@ def sum_up(found, kinds, never):
         left = ", ".join(f"{found.left_out.count(it)} {it}" for it in dict.fromkeys(found.left_out))
         print(f"not made    {left}: give more --minutes")
     ending = "NOT CLEAN" if found.faults else "nothing wrong so far" if found.left_out else "clean"
-    print(f"verify: {found.made} runs, {len(found.faults)} faults; {ending}")
+    print(f"verify: {usage.counted(found.made, 'run')}, {usage.counted(len(found.faults), 'fault')}; {ending}")
 
 
 def counted(found, pool, has_short_test):
@@ -248,7 +249,7 @@ def verify(options, make_run, has_short_test):
         short, whole, plain = counted(found, pool, has_short_test)
         kinds = chosen(plan_of(short, whole), options)
         found.planned = 1 + sum(len(it.flags) for it in kinds)
-        print(f"verify: {found.planned} runs", flush=True)
+        print(f"verify: {usage.counted(found.planned, 'run')}", flush=True)
         found.all_of([it for it in kinds if not it.part], pool)
         found.all_of([it for it in kinds if it.part], pool)
     situate(found, kinds)

@@ -1,5 +1,5 @@
 #!/usr/bin/env python3
-"""Writes script.schema.json beside this file (JSON Schema, draft 2020-12), for editors: `bin/irp_words tables |
+"""Writes script.schema.json beside this file (JSON Schema, draft 2020-12), for editors: `bin/irp words tables |
 schema/make_schema.py`. Names and keys are those of the tables that it reads; the form of each value stands here, as in
 docs/FORMATS.md. With the word --check it writes nothing, and ends with 1 where the file isn't what it would write, or
 words.tmLanguage.json has other words.
@@ -9,14 +9,16 @@ import os
 import re
 import sys
 
-USAGE = ('usage: irp_words tables | make_schema.py writes script.schema.json beside it; make_schema.py --check tells '
+USAGE = ('usage: irp words tables | make_schema.py writes script.schema.json beside it; make_schema.py --check tells '
          'whether that and words.tmLanguage.json are of these tables')
 if sys.argv[1:] not in ([], ['--check']):
-    sys.exit(USAGE)
+    is_help = sys.argv[1] in ('-h', '--help')
+    print(USAGE, file=sys.stdout if is_help else sys.stderr)
+    sys.exit(0 if is_help else 4)
 try:
     TABLES = json.load(sys.stdin)
 except ValueError:
-    sys.exit('make_schema.py: standard input is no JSON; give it what bin/irp_words tables prints')
+    sys.exit('make_schema.py: standard input is no JSON; give it what bin/irp words tables prints')
 U8, U32, U64 = 255, 4294967295, 18446744073709551615
 
 

@@ -45,8 +45,9 @@ has='Did you mean complete?'
 gives 1 /dev/null run "$room/misspelled.words"
 has='65: a number from 1 to 64 is wanted'
 gives 4 /dev/null run --workers 65 "$room/script"
-has='there is no transcript'
-gives 0 /dev/null check
+has='standard input is empty'
+gives 1 /dev/null check
+gives 1 /dev/null why
 has='No such file'
 gives 5 /dev/null run "$room/nothing"
 has='refused: Ended'
@@ -64,16 +65,16 @@ has='usage: irp check'
 gives 0 /dev/null check --help
 has='irp, commit'
 gives 0 /dev/null --version
-has='drivers/run'
+has='completions'
 gives 0 /dev/null help
 has='--on {host,wine}'
 gives 0 /dev/null play --help
 has='a FILE or --random N is wanted'
-gives 2 /dev/null play
-has='is none of its words'
+gives 4 /dev/null play
+has='ran: it isn'\''t one of the words; did you mean run?'
 gives 4 /dev/null ran
 has='a lesson and a file are wanted'
-gives 2 /dev/null lesson
+gives 4 /dev/null lesson
 
 # A program that the environment names is run; one that can't be run is told, and bin/irpx doesn't run itself.
 printf '#!/bin/sh\necho "stand-in $*"\n' >"$room/stand_in"
@@ -83,12 +84,13 @@ named() {
     shift 2
     gives "$@"
 }
-for word in 'IRPX check' 'IRP_VIEW text' 'IRP_WORDS words' 'IRP_ORDERS orders' 'IRP_LIVE live'; do
+for word in 'IRPX demo' 'IRP_VIEW text' 'IRP_WORDS words tables' 'IRP_ORDERS orders' 'IRP_LIVE live'; do
     has=stand-in
-    named "${word% *}" "$room/stand_in" 0 /dev/null "${word#* }"
+    # shellcheck disable=SC2086
+    named "${word%% *}" "$room/stand_in" 0 /dev/null ${word#* }
 done
 has="IRPX names $room/script, which can't be run"
-named IRPX "$room/script" 6 /dev/null check
+named IRPX "$room/script" 6 /dev/null demo
 has='legal 8'
 named IRPX ../bin/irpx 0 "$room/transcript" check
 
@@ -97,17 +99,17 @@ words_of() {
     tr A-Z a-z | grep -oE '[a-z]{4,}' | sort -u
 }
 has='.SH SYNOPSIS'
-for name in irp irp-run irp-check irp_view irp_words irp_orders irp_live drivers-run lessons-check; do
+for name in irp run check demo why text page packet words orders live drive play lesson man completions; do
     gives 0 /dev/null man "$name"
     for section in NAME DESCRIPTION 'EXIT STATUS' EXAMPLES; do
         grep -qx ".SH $section" "$room/output" || { wrong=$((wrong + 1)) && echo "failed: man $name has no $section"; }
     done
 done
-gives 0 /dev/null man drivers-run
-../drivers/run --help | words_of >"$room/said"
+gives 0 /dev/null man drive
+../bin/irp drive --help | words_of >"$room/said"
 words_of <"$room/output" | comm -23 "$room/said" - | grep -vxE 'usage|examples?|exit|status' >"$room/lost"
-[ ! -s "$room/lost" ] || { wrong=$((wrong + 1)) && echo "failed: man drivers-run has not: $(tr '\n' ' ' <"$room/lost")"; }
-has='name a program'
-gives 2 /dev/null man nobody
+[ ! -s "$room/lost" ] || { wrong=$((wrong + 1)) && echo "failed: man drive has not: $(tr '\n' ' ' <"$room/lost")"; }
+has='nobody: there is no page of it'
+gives 4 /dev/null man nobody
 echo "tried: $tried $wrong one command"
 [ "$wrong" -eq 0 ]

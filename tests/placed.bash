@@ -109,5 +109,4 @@ is_left_out "can't be read"
 is_left_out "can't be read"
 
 meets 'standard input has no places' cmp -s <("$IRP_VIEW" text <"$kept") <(../bin/irp text <"$kept")
-meets 'help is irp_view'\''s' cmp -s <("$IRP_VIEW" --help) <(../bin/irp text --help)
 finish 'names and lines'

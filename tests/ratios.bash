@@ -59,7 +59,7 @@ meets 'slower than before: told' grep -q '2 rows are slower than before by more 
 CARGO=$room/none run --quick --before "$room/none" calls
 meets 'no programs before: status' [ "$status" -eq 1 ]
 run --quick sends
-meets 'another word: status' [ "$status" -eq 2 ]
+meets 'another word: status' [ "$status" -eq 4 ]
 
 if command -v cargo >/dev/null; then
     (cd plain && cargo test --offline --quiet >"$room/tests" 2>&1) || cat "$room/tests"

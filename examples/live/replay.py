@@ -1,8 +1,8 @@
 #!/usr/bin/env python3
-"""A harness over irp_live: goes through a recorded history, and asks before each call what it would be refused with.
+"""A harness over irp live: goes through a recorded history, and asks before each call what it would be refused with.
 
-Usage: replay.py TRANSCRIPT [IRP_LIVE]. It tells where an answer isn't what was recorded, and what is wrong with the first
-wrong entry. Then it prints the verdict, and ends with the status of irp_live. A harness that drives code of its own makes
+Usage: replay.py TRANSCRIPT [IRP_LIVE]. IRP_LIVE names another program. It tells where an answer isn't what was recorded, and what is wrong with the first
+wrong entry. Then it prints the verdict, and ends with the status of irp live. A harness that drives code of its own makes
 the same calls: `would` before the code's call, `feed` once it knows the entry."""
 
 import json

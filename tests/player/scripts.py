@@ -32,7 +32,7 @@ def as_json(path):
         words = os.environ.get("IRP_WORDS") or program("irp_words")
         made = subprocess.run([words, "json", path], capture_output=True, text=True, check=False)
         if made.returncode:
-            raise Unplayable(made.stderr.strip() or "irp_words refuses it")
+            raise Unplayable(made.stderr.strip() or "irp words refuses it")
         text = made.stdout
     try:
         return json.loads(text)

@@ -193,6 +193,9 @@ def try_rows(bench):
 
 
 def main():
+    if {"-h", "--help"} & set(sys.argv[1:]):
+        print(__doc__)
+        return 0
     try:
         bench = Bench()
     except (running.Missing, building.Failed) as why:

@@ -213,6 +213,9 @@ def try_compilers(bench):
 
 
 def main():
+    if {"-h", "--help"} & set(sys.argv[1:]):
+        print(__doc__)
+        return 0
     with tempfile.TemporaryDirectory() as room:
         bench = Bench(os.environ.get("IRPX") or JUDGE.find_irpx(), room)
         try:
