@@ -1,61 +1,48 @@
 /* Three reads wait in the queue. One is cancelled, and two writes answer the others, the oldest one first. Then two reads
-   wait, and a write comes while the older one is cancelled. */
-#include <pthread.h>
-#include <wdm.h>
-#include <wdm_test.h>
+   wait, and a write comes while the older one is cancelled; or its handle is closed. */
+#include "../lesson_test.h"
 
-typedef struct { PIRP Irp; IO_STATUS_BLOCK Iosb; KEVENT Done; } READ;
+static REQUEST a, b, c;
 
-static void send(READ *r, PDEVICE_OBJECT device)
-{
-    KeInitializeEvent(&r->Done, NotificationEvent, FALSE);
-    r->Irp = WdmBuildIrp(device, IRP_MJ_READ, 0, 4, &r->Iosb, &r->Done);
-    IoCallDriver(device, r->Irp);
-}
-
-static BOOLEAN is_answered(READ *r)
-{
-    return KeReadStateEvent(&r->Done) && r->Iosb.Status == STATUS_SUCCESS;
-}
+static BOOLEAN is_answered(REQUEST *r) { return has_status(r, STATUS_SUCCESS); }
 
 WDM_TEST(three_reads_wait_and_the_oldest_is_answered_first)
 {
-    static READ a, b, c;
-    const PDEVICE_OBJECT device = WdmLoadByName(DRIVER)->DeviceObject;
-    send(&a, device), send(&b, device), send(&c, device);
-    if (!WDM_CHECK(!KeReadStateEvent(&a.Done) && !KeReadStateEvent(&b.Done) && !KeReadStateEvent(&c.Done)))
+    PDRIVER_OBJECT driver = WdmLoadByName(DRIVER);
+    const PDEVICE_OBJECT device = driver->DeviceObject;
+    send(&a, device, IRP_MJ_READ, 4), send(&b, device, IRP_MJ_READ, 4), send(&c, device, IRP_MJ_READ, 4);
+    if (!WDM_CHECK(!is_done(&a) && !is_done(&b) && !is_done(&c)))
         return;
     WdmCancelRequest(b.Irp);
-    WDM_CHECK(KeReadStateEvent(&b.Done) && b.Iosb.Status == STATUS_CANCELLED);
+    WDM_CHECK(has_status(&b, STATUS_CANCELLED));
     WdmSend(device, IRP_MJ_WRITE, 0, 4);
     WDM_CHECK(is_answered(&a) && !is_answered(&c));
     WdmSend(device, IRP_MJ_WRITE, 0, 4);
     WDM_CHECK(is_answered(&c));
-}
-
-static void *cancel(void *read)
-{
-    WdmCancelRequest(((READ *)read)->Irp);
-    return NULL;
-}
-
-static void *write_once(void *device)
-{
-    WdmSend(device, IRP_MJ_WRITE, 0, 4);
-    return NULL;
+    unload(driver);
 }
 
 /* Either read may get the answer, but one of them does. A last write answers what is left. */
 WDM_TEST(a_write_that_meets_a_cancel_answers_one_of_two_reads)
 {
-    static READ a, b;
-    pthread_t canceller, writer;
+    pthread_t canceller;
     const PDEVICE_OBJECT device = WdmLoadByName(DRIVER)->DeviceObject;
-    send(&a, device), send(&b, device);
-    pthread_create(&canceller, NULL, cancel, &a);
-    pthread_create(&writer, NULL, write_once, device);
+    send(&a, device, IRP_MJ_READ, 4), send(&b, device, IRP_MJ_READ, 4);
+    pthread_create(&canceller, NULL, cancel_it, &a);
+    write_once(device);
     pthread_join(canceller, NULL);
-    pthread_join(writer, NULL);
     WDM_CHECK(is_answered(&a) || is_answered(&b));
     WdmSend(device, IRP_MJ_WRITE, 0, 4);
+}
+
+WDM_TEST(in_every_order_a_cancel_meets_the_end_of_its_handle)
+{
+    pthread_t canceller;
+    const PDEVICE_OBJECT device = WdmLoadByName(DRIVER)->DeviceObject;
+    PFILE_OBJECT file = WdmOpenFile(device);
+    send(&a, device, IRP_MJ_READ, 4);
+    pthread_create(&canceller, NULL, cancel_it, &a);
+    WdmCloseFile(file);
+    pthread_join(canceller, NULL);
+    WDM_CHECK(has_status(&a, STATUS_CANCELLED));
 }

@@ -45,6 +45,13 @@ static NTSTATUS PassDown(PDEVICE_OBJECT DeviceObject, PIRP Irp)
     return IoCallDriver(ext->Lower, Irp);
 }
 
+/* A device that hasn't started answers no read. */
+static NTSTATUS Read(PDEVICE_OBJECT DeviceObject, PIRP Irp)
+{
+    PEXTENSION ext = DeviceObject->DeviceExtension;
+    return ext->IsStarted ? PassDown(DeviceObject, Irp) : Complete(Irp, STATUS_DEVICE_NOT_READY);
+}
+
 static NTSTATUS Pnp(PDEVICE_OBJECT DeviceObject, PIRP Irp)
 {
     PEXTENSION ext = DeviceObject->DeviceExtension;
@@ -65,7 +72,13 @@ static NTSTATUS AddDevice(PDRIVER_OBJECT DriverObject, PDEVICE_OBJECT Pdo)
     const NTSTATUS status = IoCreateDevice(DriverObject, sizeof(EXTENSION), NULL, FILE_DEVICE_UNKNOWN, 0, FALSE, &device);
     if (!NT_SUCCESS(status))
         return status;
-    ((PEXTENSION)device->DeviceExtension)->Lower = IoAttachDeviceToDeviceStack(device, Pdo);
+    PEXTENSION ext = device->DeviceExtension;
+    ext->Lower = IoAttachDeviceToDeviceStack(device, Pdo);
+    if (ext->Lower == NULL) {
+        IoDeleteDevice(device);
+        return STATUS_NO_SUCH_DEVICE;
+    }
+    device->Flags |= ext->Lower->Flags & (DO_BUFFERED_IO | DO_DIRECT_IO | DO_POWER_PAGABLE);
     device->Flags &= ~(ULONG)DO_DEVICE_INITIALIZING;
     return STATUS_SUCCESS;
 }
@@ -76,6 +89,7 @@ NTSTATUS DriverEntry(PDRIVER_OBJECT DriverObject, PUNICODE_STRING RegistryPath)
     for (int i = 0; i <= IRP_MJ_MAXIMUM_FUNCTION; i++)
         DriverObject->MajorFunction[i] = PassDown;
     DriverObject->MajorFunction[IRP_MJ_PNP] = Pnp;
+    DriverObject->MajorFunction[IRP_MJ_READ] = Read;
     DriverObject->DriverExtension->AddDevice = AddDevice;
     return STATUS_SUCCESS;
 }
