@@ -104,7 +104,7 @@ class Judge:
         more = [] if flags[:1] == ("--every-order",) else ["--json", found, *(["--coverage"] if is_test and not flags else [])]
         status, said = ended([f"{TOP}/drivers/run", *flags, *more, *its[0], self.path, *its[1]])
         if status == 2 and not re.search("FAULT|STOPPED", said):
-            print(f"lessons/check: {self.path} can't be run:\n{said.rstrip()}", file=sys.stderr)
+            print(f"irp lesson: {self.path} can't be run:\n{said.rstrip()}", file=sys.stderr)
             sys.exit(2)
         if os.path.exists(found) and not any(it in flags for it in ("--low-memory",)):
             with open(found, encoding="utf-8") as it:
