@@ -142,14 +142,14 @@ void remember_act(const char *call)
             f->acted = acts[i];
 }
 
-/* A request that a driver may not fail, and handles, has its success when it goes down: no routine is there to set it. */
+/* A device that is gone: a driver that handles that has set its success when the request goes down, and no routine is there to
+   do so. A removal without it is passed down by drivers that are right otherwise. */
 static void check_handled(const Packet *p, const Frame *f, UCHAR minor, ULONG status)
 {
-    const bool is_told_so = minor == IRP_MN_SURPRISE_REMOVAL || minor == IRP_MN_STOP_DEVICE || minor == IRP_MN_REMOVE_DEVICE;
-    if (is_told_so && f->acted && p->asking == f && status == (ULONG)STATUS_NOT_SUPPORTED && (p->skipped || !p->want))
-        broken("StatusNotSet", p, "%s calls %s for IRP_MN_%s, and passes it down with STATUS_NOT_SUPPORTED, with which it came",
-               function_name(f->fn), f->acted, minor == IRP_MN_STOP_DEVICE ? "STOP_DEVICE" :
-               minor == IRP_MN_REMOVE_DEVICE ? "REMOVE_DEVICE" : "SURPRISE_REMOVAL");
+    if (minor == IRP_MN_SURPRISE_REMOVAL && f->acted && p->asking == f && status == (ULONG)STATUS_NOT_SUPPORTED &&
+        (p->skipped || !p->want))
+        broken("StatusNotSet", p, "%s calls %s for IRP_MN_SURPRISE_REMOVAL, and passes that down with STATUS_NOT_SUPPORTED, with "
+               "which it came", function_name(f->fn), f->acted);
 }
 
 /* A dispatch passes the packet down. */

@@ -15,7 +15,8 @@ void forget_asleep(const KTIMER *timer)
 
 static bool is_set_device(const IO_STACK_LOCATION *l)
 {
-    return l->MajorFunction == IRP_MJ_POWER && l->MinorFunction == IRP_MN_SET_POWER && l->Parameters.Power.Type == DevicePowerState;
+    return l->MajorFunction == IRP_MJ_POWER && l->MinorFunction == IRP_MN_SET_POWER &&
+        l->Parameters.Power.Type == DevicePowerState;
 }
 
 static bool lies_in_extension(const void *it, const DEVICE_OBJECT *device)
@@ -59,8 +60,9 @@ void tell_asleep(const KTIMER *t)
     for (int i = 0; i < n_asleep; i++)
         if (asleep[i].timer == t) {
             n_rung++;
-            note("a timer in D3", "the timer that was set at %s goes off while %s has no power: call KeCancelTimer before the power goes, "
-                 "since %s may touch the device", place(*t->HostSet), who(asleep[i].device), function_name((void *)t->Dpc->DeferredRoutine));
+            note("a timer in D3", "the timer that was set at %s goes off while %s has no power: call KeCancelTimer before the "
+                 "power goes, since %s may touch the device", place(*t->HostSet), who(asleep[i].device),
+                 function_name((void *)t->Dpc->DeferredRoutine));
         }
 }
 
