@@ -27,8 +27,7 @@ FUNCTIONS = {
 LINES = [
     (67, 67, "", PROCESSES), (314, 327, "", "images"), (302, 302, "", "the header of a timer is opaque"),
     (307, 307, "", "the header of a timer is opaque"), (433, 433, "", PROCESSES), (448, 451, "", PROCESSES),
-    (454, 454, "", PROCESSES), (462, 462, "", "ExGetPreviousMode isn't there"), (469, 479, "", PROCESSES),
-    (935, 956, "", "a timer that runs is initialized: the host hangs"),
+    (454, 454, "", PROCESSES), (469, 479, "", PROCESSES),
     (1329, 1331, "", "ZwDuplicateObject isn't there"),
     (1377, 1385, "", "a handle of a file has no file object"),
     (1402, 1406, "", "ObOpenObjectByPointer isn't there"), (1413, 1414, "", "ObOpenObjectByPointer isn't there"),
@@ -159,27 +158,18 @@ NOT_REACHED = {"driver.c": "no run comes to it", "driver_pnp.c": "no run comes t
 OPAQUE = "a header of the kernel's that is opaque on the host"
 FAILS = {
     "driver.c": {
-        "113": "FILE_OBJECT.DeviceObject is the top device", "114": "an event of the user's, which this test hasn't",
-        "136": "a location that is written by hand is put back", "261": "follows from line 248", "268": "follows from line 248",
-        "301": OPAQUE, "306": OPAQUE, "444": OPAQUE, "461": "PsIsSystemThread is always true",
+        "114": "an event of the user's, which this test hasn't", "301": OPAQUE, "306": OPAQUE, "444": OPAQUE,
         "498": "APCs count as disabled at no level; Windows shows both", "1375": "a handle of a file has no file object",
-        "1395": OPAQUE,
-        "1447@1699": "ExAcquireSharedStarveExclusive is the plain call",
-        "1698": "ExAcquireSharedStarveExclusive is the plain call", "1739": "IoGetStackLimits tells 0",
+        "1395": OPAQUE, "1447@1699": "ExAcquireSharedStarveExclusive is the plain call",
+        "1698": "ExAcquireSharedStarveExclusive is the plain call; on a slow machine nobody waits by then",
         **dict.fromkeys(("1694", "1447@1695"), "on a slow machine: the thread that it waits a moment for hasn't come"),
     },
     "driver_pnp.c": {
         **dict.fromkeys(("290", "292", "294"), "an interface of a device has another name here"),
-        "300": "PoSetPowerState returns the new state",
         **dict.fromkeys(("308", "317", "318"), "without a manager (pnp.c): the child goes in another order"),
         "400": "without a manager (pnp.c): nobody plugs",
-        **dict.fromkeys(("509", "512", "556", "558", "561"), "a device's capabilities leave DeviceState zero"),
         "587": "an instance has another name here", "756": "it is removed while a file is open",
         **dict.fromkeys(("801", "802"), "it is removed while a file is open"),
     },
     "driver_netio.c": dict.fromkeys(("307", "308", "309", "375"), "in the run in which nobody connects"),
-    "ntoskrnl.c": {
-        **dict.fromkeys(("696", "697"), "a built packet that fails at once: the status block is written"),
-        "704": "the output of a warning isn't copied back",
-    },
 }
