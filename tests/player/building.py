@@ -4,10 +4,13 @@ import concurrent.futures
 import os
 import shutil
 import subprocess
+import sys
 
 HERE = os.path.dirname(os.path.abspath(__file__))
 TOP = os.path.dirname(os.path.dirname(HERE))
 DRIVERS = TOP + "/drivers"
+sys.path.append(DRIVERS)
+import folders  # noqa: E402 (the path is set above)
 PLAYER = ["routines", "locks", "steps", "seats", "feed"]  # these, and create, are recorded
 RECORDER = sorted(it[:-2] for it in os.listdir(DRIVERS + "/recorder") if it.endswith(".c"))
 # The tests of the host: each has a `main`, or serves one.
@@ -18,7 +21,7 @@ HEADERS = "/usr/x86_64-w64-mingw32/include/ddk"
 WINDOWS_COMPILER = "x86_64-w64-mingw32-gcc"
 
 
-BUILT = TOP + "/out/player"
+BUILT = folders.below(TOP + "/out") + "/player"
 
 
 class Failed(Exception):
@@ -38,8 +41,8 @@ def call_all(commands):
 
 def newest_header():
     """Returns when the newest header changed that an object may be made of."""
-    folders = (HERE, DRIVERS, DRIVERS + "/include", DRIVERS + "/host", DRIVERS + "/recorder", TOP + "/windows")
-    return max(os.path.getmtime(f"{folder}/{it}") for folder in folders if os.path.isdir(folder)
+    places = (HERE, DRIVERS, DRIVERS + "/include", DRIVERS + "/host", DRIVERS + "/recorder", TOP + "/windows")
+    return max(os.path.getmtime(f"{folder}/{it}") for folder in places if os.path.isdir(folder)
                for it in os.listdir(folder) if it.endswith(".h"))
 
 
