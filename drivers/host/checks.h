@@ -98,6 +98,8 @@ PKDPC take_dpc_in(const void *from, size_t size);
 bool dpc_is_on_its_way(const KDPC *dpc); /* it is queued, or runs */
 void check_work_gone(const void *from, size_t size, const char *what); /* more_work.c */
 void check_given_gone(const void *from, size_t size, const char *what); /* given.c */
+void check_dma_gone(const void *from, size_t size, const char *what);   /* dma_memory.c, as is the next one */
+void check_dma_completed(PMDL mdl);
 
 /* watching.c, completions.c */
 void watch_sent(Packet *p, int by, uint64_t use);

@@ -236,6 +236,7 @@ VOID WdmIoCompleteRequest(PIRP Irp, WDM_SITE at)
     if (live) {
         check_completion(p, by, status, information);
         check_cleanup(p, by, status);
+        check_dma_completed(p->irp->MdlAddress);
     }
     if (live)
         check_next_power(p, by, false);

@@ -19,7 +19,7 @@ ULONG IoSizeofWorkItem(VOID) { return sizeof(struct _IO_WORKITEM); }
 
 static void take_out(PIO_WORKITEM item)
 {
-    PIO_WORKITEM *i = &items;
+    PIO_WORKITEM *i = &work_items;
     while (*i && *i != item)
         i = &(*i)->next_made;
     if (*i)
@@ -45,8 +45,8 @@ VOID WdmIoInitializeWorkItem(PVOID Object, PIO_WORKITEM Item, WDM_SITE at)
     touch(Item, WRITES);
     take_out(Item);
     *Item = (struct _IO_WORKITEM){ .device = device, .object = Object, .is_own = true, .made = at,
-                                   .driver = driver->HostNumber, .next_made = items };
-    items = Item;
+                                   .driver = driver->HostNumber, .next_made = work_items };
+    work_items = Item;
     leave_host();
 }
 
@@ -78,7 +78,7 @@ void forget_plain(PIO_WORKITEM item)
 
 static PIO_WORKITEM item_of(const WORK_QUEUE_ITEM *plain)
 {
-    PIO_WORKITEM i = items;
+    PIO_WORKITEM i = work_items;
     while (i && i->plain != plain)
         i = i->next_made;
     return i;
@@ -98,8 +98,8 @@ VOID WdmExQueueWorkItem(PWORK_QUEUE_ITEM Item, WDM_SITE at)
         give_up("out of memory");
     else {
         *item = (struct _IO_WORKITEM){ .routine = (PIO_WORKITEM_ROUTINE)(void *)Item->WorkerRoutine, .context = Item->Parameter,
-                                       .plain = Item, .made = at, .driver = calling_driver(), .next_made = items };
-        items = item;
+                                       .plain = Item, .made = at, .driver = calling_driver(), .next_made = work_items };
+        work_items = item;
         Item->List.Flink = &Item->List;
         put_into_queue(item);
     }
@@ -109,7 +109,7 @@ VOID WdmExQueueWorkItem(PWORK_QUEUE_ITEM Item, WDM_SITE at)
 /* Memory goes: what lies in it and is queued is told, and leaves the queue. */
 void check_work_gone(const void *from, size_t size, const char *what)
 {
-    for (PIO_WORKITEM i = items, after; i; i = after) {
+    for (PIO_WORKITEM i = work_items, after; i; i = after) {
         const char *at = i->plain ? (const char *)i->plain : (const char *)i;
         after = i->next_made;
         if ((!i->plain && !i->is_own) || at < (const char *)from || at >= (const char *)from + size)

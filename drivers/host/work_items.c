@@ -4,7 +4,7 @@
 enum { MAX_WORKERS = 8 };
 static Condition work_came = { &host_lock, PTHREAD_COND_INITIALIZER };
 static PIO_WORKITEM first_item, last_item;
-PIO_WORKITEM items;
+PIO_WORKITEM work_items;
 static int n_workers, n_idle;
 
 /* For whoever has waited until no item is left. */
@@ -84,8 +84,8 @@ PIO_WORKITEM WdmIoAllocateWorkItem(PDEVICE_OBJECT Device, WDM_SITE at)
     struct _IO_WORKITEM *item = memory_is_refused(c.name, at) ? NULL : host_memory(sizeof *item);
     if (item) {
         const int driver = Device->DriverObject->HostNumber;
-        *item = (struct _IO_WORKITEM){ .device = Device, .object = Device, .made = at, .driver = driver, .next_made = items };
-        items = item;
+        *item = (struct _IO_WORKITEM){ .device = Device, .object = Device, .made = at, .driver = driver, .next_made = work_items };
+        work_items = item;
     }
     leave_host();
     return item;
@@ -93,7 +93,7 @@ PIO_WORKITEM WdmIoAllocateWorkItem(PDEVICE_OBJECT Device, WDM_SITE at)
 
 static bool is_item(const struct _IO_WORKITEM *item)
 {
-    PIO_WORKITEM i = items;
+    PIO_WORKITEM i = work_items;
     while (i && i != item)
         i = i->next_made;
     return i != NULL;
@@ -174,7 +174,7 @@ VOID WdmIoFreeWorkItem(PIO_WORKITEM Item, WDM_SITE at)
 {
     Call c;
     enter_host(&c, "IoFreeWorkItem", at);
-    PIO_WORKITEM *i = &items;
+    PIO_WORKITEM *i = &work_items;
     touch(Item, SYNCS);
     while (*i && *i != Item)
         i = &(*i)->next_made;
@@ -189,7 +189,7 @@ VOID WdmIoFreeWorkItem(PIO_WORKITEM Item, WDM_SITE at)
 
 void tell_work_left(int driver)
 {
-    for (PIO_WORKITEM i = items; i; i = i->next_made)
+    for (PIO_WORKITEM i = work_items; i; i = i->next_made)
         if (i->driver == driver)
             left_behind(i->queued ? "the work item, in the queue," : "the work item",
                         i->plain ? "ExQueueWorkItem" : i->is_own ? "IoInitializeWorkItem" : "IoAllocateWorkItem", i->made);

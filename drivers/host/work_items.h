@@ -18,7 +18,7 @@ struct _IO_WORKITEM {
     struct _IO_WORKITEM *next_made;
 };
 
-extern PIO_WORKITEM items; /* all that are there */
+extern PIO_WORKITEM work_items; /* all that are there */
 void queue_item(PIO_WORKITEM Item, PIO_WORKITEM_ROUTINE Routine, bool is_extended, PVOID Context, WDM_SITE at);
 void put_into_queue(PIO_WORKITEM item);
 void take_from_queue(PIO_WORKITEM item);

@@ -12,6 +12,7 @@
 #include "wdm_timers.h"
 #include "wdm_locks.h"
 #include "wdm_callbacks.h"
+#include "wdm_dma.h"
 #include "wdm_power.h"
 #include "wdm_levels.h"
 

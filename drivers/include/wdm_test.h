@@ -104,6 +104,12 @@ BOOLEAN WdmRaiseInterrupt(ULONG Vector, WDM_SITE at);
 /* The vector of the line that each device of a bus has, for drivers that connect by it (IoConnectInterruptEx). */
 ULONG WdmLineOf(PDEVICE_OBJECT Pdo);
 
+/* What a device does by DMA, with an address that its driver gave it: it reads memory, or writes to it. What no driver has
+   mapped for the device there, and in this direction, is a fault of the driver: then FALSE is returned. */
+BOOLEAN WdmDma(PDEVICE_OBJECT Pdo, PHYSICAL_ADDRESS Address, PVOID Data, ULONG Length, BOOLEAN Reads, WDM_SITE at);
+#define WdmDmaRead(pdo, address, to, length) WdmDma((pdo), (address), (to), (length), TRUE, WDM_HERE)
+#define WdmDmaWrite(pdo, address, from, length) WdmDma((pdo), (address), (PVOID)(from), (length), FALSE, WDM_HERE)
+
 /* A power setting has this value from now on: those who asked for it are called. */
 VOID WdmSetPowerSetting(LPCGUID Setting, const VOID *Value, ULONG Length);
 
