@@ -149,6 +149,8 @@ static NTSTATUS Pass(PDEVICE_OBJECT DeviceObject, PIRP Irp)
     PIRP read;
     while ((goes || is_gone || is_closed) && (read = TakeRead(is_closed ? stack->FileObject : NULL)) != NULL)
         Complete(read, is_closed ? STATUS_CANCELLED : STATUS_DELETE_PENDING);
+    if (is_gone)
+        Irp->IoStatus.Status = STATUS_SUCCESS;
     IoSkipCurrentIrpStackLocation(Irp);
     const NTSTATUS status = IoCallDriver(lower, Irp);
     if (goes) {

@@ -61,8 +61,10 @@ static NTSTATUS Pnp(PDEVICE_OBJECT DeviceObject, PIRP Irp)
         return Complete(Irp, status);
     if (minor == IRP_MN_REMOVE_DEVICE)
         return Remove(DeviceObject, Irp);
-    if (minor == IRP_MN_SURPRISE_REMOVAL || minor == IRP_MN_STOP_DEVICE)
+    if (minor == IRP_MN_SURPRISE_REMOVAL || minor == IRP_MN_STOP_DEVICE) {
         Registered.Stop(ext->Mini);
+        Irp->IoStatus.Status = STATUS_SUCCESS;
+    }
     IoSkipCurrentIrpStackLocation(Irp);
     status = IoCallDriver(ext->Lower, Irp);
     IoReleaseRemoveLock(&ext->RemoveLock, Irp);
