@@ -11,6 +11,7 @@ import subprocess
 import as_windows
 import checked
 import explored
+import newer
 import planted
 
 HERE = os.path.dirname(os.path.abspath(__file__))
@@ -60,6 +61,10 @@ def tests_of(misuses, cases):
         found.setdefault(rule, ("windows", (name, flag)))
     for name, tells in planted.HOSTILE.items():
         found.setdefault(rule_of(tells[0]), ("hostile", name))
+    for path in newer.files():
+        for (number, run, rule), _ in newer.mistakes_in(path):
+            if not run:
+                found.setdefault(rule, ("newer", (path, number)))
     for rule in BY_SCHEDULE:
         found[rule] = ("schedule", rule)
     return found
@@ -154,9 +159,10 @@ class Silenced:
             settings = checked.SETTINGS.get("_" + what.partition("_")[2], {})
             run = self.run(self.program("rules", [HERE + "/rules"]), f"{what} wrong", rule, settings)
             return checked.wrong_case(what, checked.lines_told().get(what, []), run)
-        if kind == "windows":
-            source = [f"{HERE}/windows/{what[0]}.c"]
-            program = self.bench.build(self.bench.folder(what[0]), source, library=self.library, flags=[f"-D{what[1]}"])
+        if kind in ("windows", "newer"):
+            source, flag = (f"windows/{what[0]}.c", what[1]) if kind == "windows" else (what[0], f"WRONG={what[1]}")
+            folder = self.bench.folder(os.path.basename(source))
+            program = self.bench.build(folder, [f"{HERE}/{source}"], library=self.library, flags=[f"-D{flag}"])
             return NO_COMPLAINT if f"FAULT {rule}" in self.run(program, "", rule).said else "it isn't told"
         run = self.run(self.program(what, [f"{HERE}/hostile/{what}.c"]), "", rule)
         missing = [it for it in planted.HOSTILE[what] if it not in run.said]

@@ -62,6 +62,9 @@ static VOID GiveBack(VOID)
 {
     if (registration && WRONG != 1)
         ExUnregisterCallback(registration);
+#if WRONG == 9
+    ExUnregisterCallback(registration); /* told 9: Callback */
+#endif
     if (settings && WRONG != 2)
         PoUnregisterPowerSettingCallback(settings);
     if (handle && WRONG != 3)
@@ -165,6 +168,20 @@ static VOID Coalesce(VOID)
     KeWaitForSingleObject(&plain, Executive, KernelMode, FALSE, NULL);
 }
 
+static VOID UseList(VOID)
+{
+    LOOKASIDE_LIST_EX list;
+    if (!NT_SUCCESS(ExInitializeLookasideListEx(&list, NULL, NULL, NonPagedPoolNx, 0, 16, 'tsiL', 0)))
+        return;
+    PVOID block = ExAllocateFromLookasideListEx(&list);
+    if (block)
+        ExFreeToLookasideListEx(&list, block);
+    ExDeleteLookasideListEx(&list);
+#if WRONG == 10
+    block = ExAllocateFromLookasideListEx(&list); /* told 10: Lookaside */
+#endif
+}
+
 int main(void)
 {
     PDRIVER_OBJECT driver = WdmLoadDriver("objects", DriverEntry);
@@ -175,6 +192,7 @@ int main(void)
     UsePages();
     Attach();
     Coalesce();
+    UseList();
     WdmUnloadDriver(driver);
     return WdmFinish();
 }
