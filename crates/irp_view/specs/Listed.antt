@@ -1,33 +1,41 @@
 -- What shows a transcript while its text is read, block after block.
-use Rattle.std.specs.Prelude.{ℕ, ◌≡◌, List, [], ◌++◌, length, true, Option, Some, None, Result, Ok, Err}
+use Rattle.std.specs.Prelude.{ℕ, ◌≡◌, List, [], ◌++◌, length, true, is_some, Option, Some, None, Result, Ok, Err}
 use Rattle.irp_types.specs.declared.names.IrpRef.{IrpRef}
 use Rattle.irp_transcript.specs.Transcripts.{TranscriptValue}
 use Rattle.irp_feed.specs.Feeding.{Stops, TakesFirst}
 use Rattle.irp_feed.specs.Input.{Holds}
 use Rattle.irp_listing.specs.Listing.{are_none}
+use Rattle.irp_listing.specs.Stacks.{IsAfter}
 use Rattle.irp_streams.specs.Writing.{BreaksOff}
 use Rattle.irp_streams.specs.declared.reading.StreamFault.{StreamFault}
 use Rattle.irp_view.specs.Reading.{line_of}
-use Rattle.irp_view.specs.Showing.{IsShowing, Shows}
+use Rattle.irp_view.specs.Showing.{IsShowing, Shows, tells_seats}
 use Rattle.irp_view.specs.Streams.{Output, Streams}
 use Rattle.irp_view.specs.declared.listing.Gathering.{Gathering}
 use Rattle.irp_view.specs.declared.listing.Unshown.{Unshown}
 use Rattle.irp_view.specs.declared.listing.Unshown.TheVariants.{Unread as IsUnread, Unwritten as IsUnwritten}
 use Rattle.irp_view.specs.declared.orders.Span.{Span}
 use Rattle.irp_view.specs.declared.showing.Shown.{Shown}
+use Rattle.irp_view.specs.declared.showing.Wanted.{Wanted}
 
 -- ---- what is gathered
 
--- the lines of this transcript were gone through: what was sent, and then what is gathered, shows it
-pub record IsGathered (only : Option IrpRef) (span : Option Span) (shown : Shown) (sent : List ℕ)
-    (transcript : TranscriptValue) : Type 0 where
+-- the lines of this transcript were gone through: what was sent, and then what is gathered, shows it; the stacks are
+-- those that its entries lead to, and its header says whether seats are told
+pub record IsGathered (wanted : Wanted) (shown : Shown) (sent : List ℕ) (transcript : TranscriptValue) : Type 0 where
   pub counted : shown.entries ≡ length transcript.entries
   pub before_words : shown.before_words ≡ are_none transcript.words
-  pub shows : IsShowing only span transcript (sent ++ shown.text.items)
+  pub followed : IsAfter transcript.entries shown.stacks
+  pub headed : is_some transcript.header ≡ true
+  pub seats : wanted.choice.tells_seats ≡ tells_seats transcript.header
+  pub shows : IsShowing wanted.choice.only wanted.span transcript (sent ++ shown.text.items)
 
 -- nothing was gone through
-abbrev pub IsFresh : Shown → Type 0
-IsFresh shown = (shown.entries ≡ 0) × (shown.before_words ≡ true) × (shown.text.items ≡ [])
+pub record IsFresh (shown : Shown) : Type 0 where
+  pub counted : shown.entries ≡ 0
+  pub before_words : shown.before_words ≡ true
+  pub followed : IsAfter [] shown.stacks
+  pub empty : shown.text.items ≡ []
 
 -- what is chosen of a history: the entries of one use of a packet or of all, and those of a span or of all of it
 pub record Chosen : Type 0 where
@@ -69,7 +77,7 @@ pub record HasGathered (gathering : Gathering) (output : Output) (aim : Aim) (en
   pub span : gathering.wanted.span ≡ aim.chosen.span
   pub calm : gathering.fault ≡ None
   pub shows : ShowsLines aim.chosen ended aim.before output
-  pub is : IsGathered aim.chosen.only aim.chosen.span gathering.shown shows.text transcript
+  pub is : IsGathered gathering.wanted gathering.shown shows.text transcript
 
 -- ---- the input
 

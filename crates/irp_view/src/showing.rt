@@ -1,13 +1,12 @@
 //! The words `text` and `packet`: what shows a transcript, gathered as its lines are read.
 
-ghost use Rattle.std.specs.Prelude.{ℕ, ◌≡◌, ◌+◌, ◌<◌, ◌^◌, List, [], ◌∷◌, ◌++◌, length, OnOk};
-ghost use Rattle.irp_types.specs.declared.entry.Entry.{Entry};
+ghost use Rattle.std.specs.Prelude.{ℕ, ◌+◌, ◌<◌, ◌^◌, ◌↔◌, IsTrue, List, length, OnOk};
 ghost use Rattle.irp_transcript.specs.Transcripts.{TranscriptValue};
 ghost use Rattle.irp_fast_reader.specs.Fed.{IsInPlace};
 ghost use Rattle.irp_transcript_reader.specs.Reading.{with_line};
 ghost use Rattle.irp_transcript_reader.specs.declared.line.Line.TheVariants.{Entry as EntryLine, Word as WordOf};
 ghost use Rattle.irp_view.specs.Listed.{IsFresh, IsGathered};
-ghost use Rattle.irp_view.specs.Showing.{part_of, with_wanted};
+ghost use Rattle.irp_view.specs.Showing.{IsWithin};
 
 use crate::orders::Span;
 use irp_fast_reader::Line;
@@ -42,8 +41,7 @@ pub struct Shown {
 
 /// Whether the entry at this place is one of a span's, or of all.
 fn is_within(span: Option<Span>, place: usize) -> bool
-    ensures { (entries : List Entry) (entry : Entry) → place ≡ length entries
-        → part_of span (entries ++ entry ∷ []) ≡ with_wanted result (part_of span entries) entry }
+    ensures { IsTrue result ↔ IsWithin span place }
 {
     let Some(span) = span else {
         return true;
@@ -81,10 +79,9 @@ impl Shown {
     /// Gathers what stands for the next entry, where it is wanted. The one error is want of memory.
     fn entry(&mut self, wanted: Wanted, entry: &Entry) -> Result<(), AllocError>
         ensures { (before : TranscriptValue) (sent : List ℕ)
-            → IsGathered wanted.choice.only wanted.span self.old sent before
+            → IsGathered wanted self.old sent before
             → IsInPlace before (EntryLine entry.now) → length before.entries + 1 < 2 ^ 64
-            → OnOk result (IsGathered wanted.choice.only wanted.span self.new sent
-            (with_line before (EntryLine entry.now))) }
+            → OnOk result (IsGathered wanted self.new sent (with_line before (EntryLine entry.now))) }
     {
         let is_wanted = is_within(wanted.span, self.entries);
         self.entries = self.entries.saturating_add(1);
@@ -104,9 +101,8 @@ impl Shown {
     /// Gathers what stands for the next word line, where all entries are shown. The one error is want of memory.
     fn word(&mut self, wanted: Wanted, word: WordLine) -> Result<(), AllocError>
         ensures { (before : TranscriptValue) (sent : List ℕ)
-            → IsGathered wanted.choice.only wanted.span self.old sent before
-            → OnOk result (IsGathered wanted.choice.only wanted.span self.new sent
-            (with_line before (WordOf word))) }
+            → IsGathered wanted self.old sent before
+            → OnOk result (IsGathered wanted self.new sent (with_line before (WordOf word))) }
     {
         let is_first = self.before_words;
         self.before_words = false;
@@ -119,10 +115,9 @@ impl Shown {
     /// Gathers what stands for the next line. The one error is want of memory.
     pub fn line(&mut self, wanted: Wanted, line: Line) -> Result<(), AllocError>
         ensures { (before : TranscriptValue) (sent : List ℕ)
-            → IsGathered wanted.choice.only wanted.span self.old sent before
+            → IsGathered wanted self.old sent before
             → IsInPlace before line → length before.entries + 1 < 2 ^ 64
-            → OnOk result (IsGathered wanted.choice.only wanted.span self.new sent
-            (with_line before line)) }
+            → OnOk result (IsGathered wanted self.new sent (with_line before line)) }
     {
         match line {
             Line::Entry(entry) => self.entry(wanted, &entry),

@@ -10,7 +10,7 @@ returns-in-Ok g c =
     let new : Output = output_of (g.O.Out.gone c.send.new.output) (g.O.Out.failures c.send.new.output) in
     let written = rw c.as_slice.ensures.value at c.in-Ok.ensures.ok in
     record {
-      taken = λ aim ended before has more. block_sent c.args.self.now mid new aim ended before has _ written c.clear.ensures.items refl refl refl refl;
+      taken = λ aim ended before has more. block_sent c.args.self.now mid new aim ended before has _ written c.clear.ensures.items refl refl refl refl refl;
       left = λ aim ended before has. block_left c.args.self.now mid new aim ended before has _ written refl;
     }
 

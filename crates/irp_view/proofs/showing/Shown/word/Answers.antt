@@ -12,11 +12,11 @@ returns-then-is_some c = λ before sent is.
       | then-is_some-via-then-is_some w ↦ inl (sym c.is_some.ensures ∙ w.if-is_some.true)
       | then-is_some-via-else-is_some+then-is_some-2 w ↦ inr (sym w.is_some-else-is_some.ensures ∙ w.if-is_some-2.true)
     ] in
-    word_passed c.args.wanted.choice.only c.args.wanted.span c.args.self.now _ sent before is c.args.word chosen refl refl refl)
+    word_passed c.args.wanted c.args.self.now _ sent before is c.args.word chosen refl refl refl refl)
 
 pub returns : goal.returns
 returns c = λ before sent is.
     on_ok_weaker c.put_word_line.result
-    (word_gathered c.args.wanted.choice.only c.args.wanted.span c.args.self.now _ sent before is c.args.word
-    (sym c.is_some.ensures ∙ c.if-is_some.false) (sym c.is_some-else-is_some.ensures ∙ c.if-is_some-2.false) refl refl)
+    (word_gathered c.args.wanted c.args.self.now _ sent before is c.args.word
+    (sym c.is_some.ensures ∙ c.if-is_some.false) (sym c.is_some-else-is_some.ensures ∙ c.if-is_some-2.false) refl refl refl)
     c.put_word_line.ensures
