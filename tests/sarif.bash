@@ -59,7 +59,7 @@ run 1 --sarif "$room/other.sarif" twice.c
 meets 'the last --sarif counts' test -s "$room/other.sarif"
 (cd "$room/source" && "$tests/../drivers/run" --sarif "$room/nothing/out.sarif" 'right file.c' >"$room/said" 2>&1)
 meets 'a folder that is not there is an error' [ $? -ge 2 ]
-meets 'a folder that is not there is told in a line' grep -qE '^[^ ]+: .*nothing/out.sarif' <(tail -n 1 "$room/said")
+meets 'a folder that is not there is told in a line' grep -qE '^irp drive: .*nothing/out.sarif' <(tail -n 1 "$room/said")
 
 # What crashes has no line of the host's fault: the file of the driver stands there.
 sed 's|^    Irp->IoStatus.Status = STATUS_SUCCESS;|&\n    *(volatile int *)8 = 0;|' "$right" >"$room/source/crashes.c"
