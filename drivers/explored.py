@@ -328,6 +328,12 @@ def test_untested(run, bench):
         yield f"the host's own test, {right.options.scenario}, every order of a right driver", wrong_right(right.report())
 
 
+def test_detached(run, bench):
+    """A routine lets the removal go on, and the device is detached before its send returns: the send stands before."""
+    made = Explored(run, bench, "detached", Options(bench.cc, HERE + "/races/released_early.c", 2, ["-DRIGHT", "-DAT_ONCE"]))
+    yield "a device is detached while a send comes back from it, every order", wrong_right(made.report())
+
+
 def test_parts(run, bench):
     """Three parts have together the classes of the whole, and none has them alone."""
     made = Explored(run, bench, "parts", Options(bench.cc, HERE + "/stacks/watchdog.c", 2))
@@ -442,6 +448,7 @@ def tests(run, bench):
     found += [("orders of shapes", lambda: test_shapes(run, bench)),
               ("orders of two senders", lambda: test_senders(run, bench)),
               ("untested under every order", lambda: test_untested(run, bench)),
+              ("detached under every order", lambda: test_detached(run, bench)),
               ("orders in parts", lambda: test_parts(run, bench)), ("orders stopped", lambda: test_stopped(run, bench)),
               ("orders distinct", lambda: test_distinct(run, bench)),
               ("orders by chance", lambda: test_chance(run, bench)), ("orders with a test's own locks",

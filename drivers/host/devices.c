@@ -252,6 +252,7 @@ VOID WdmIoDetachDevice(PDEVICE_OBJECT Lower, WDM_SITE at)
     if (no)
         refuse(e, no);
     else {
+        number_sends_through(up);
         devices[d].upper = devices[up].lower = NOBODY;
         Lower->AttachedDevice = NULL;
         touch_memory(&Lower->AttachedDevice, sizeof Lower->AttachedDevice, WRITES);

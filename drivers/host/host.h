@@ -87,7 +87,7 @@ struct Entry {
     uint64_t use, word, information;
     ULONG status;
     UCHAR major;
-    bool drained, cancel, sealed, by_host; /* by_host: the host made the call, so that the run goes on */
+    bool drained, cancel, numbered, sealed, by_host; /* by_host: the host made the call, so that the run goes on */
     Setting *set;
     PDRIVER_CANCEL routine;
     Asked *asked;
@@ -306,6 +306,7 @@ const char *major_name(int major);
 /* recording.c, writing.c */
 Entry *begin(Op op, Packet *p, int by);
 void seal(Entry *e, bool cancel);
+void number_sends_through(int d);
 Entry *answered(Entry *e, Reply reply, uint64_t answer);
 void refuse(Entry *e, const char *name);
 int ask(Entry *e, Packet *p, Kind kind, void *fn, int device, int location);

@@ -202,7 +202,7 @@ bool dispatch_has_it_back(Packet *p, Frame *routine)
     const Location below = p->at[j];
     Frame *f = j < p->size ? p->at[j + 1].frame : NULL;
     Entry *e = routine->e;
-    if (!f || e->sealed || f->e != e || below.by != e || below.by_i != f->i || e->asked[f->i].plan != FORWARD ||
+    if (!f || e->numbered || f->e != e || below.by != e || below.by_i != f->i || e->asked[f->i].plan != FORWARD ||
         !pthread_equal(f->thread, routine->thread) || e->asked[f->i].information ||
         raw_at(p, j + 1)->Control & SL_PENDING_RETURNED) /* also where the bit was set by hand */
         return false;

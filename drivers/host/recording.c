@@ -33,8 +33,8 @@ Entry *begin(Op op, Packet *p, int by)
     return e;
 }
 
-/* The entry is settled: it gets the next number. `cancel` is what all that were asked have been shown. */
-void seal(Entry *e, bool cancel)
+/* The entry gets the next number. `cancel` is what all that were asked have been shown. */
+static void number(Entry *e, bool cancel)
 {
     if (n_history == MAX_HISTORY)
         reach_limit("the history has a million entries");
@@ -46,11 +46,39 @@ void seal(Entry *e, bool cancel)
     }
     look_below(e);
     e->cancel = cancel;
-    e->sealed = true;
+    e->numbered = true;
     e->number = n_history;
     history[n_history++] = e;
+}
+
+/* The entry is settled. It has its number now, if not before. */
+void seal(Entry *e, bool cancel)
+{
+    if (!e->numbered)
+        number(e, cancel);
+    e->sealed = true;
     if (e->op == CALL && e->reply == NONE_YET)
         n_sends++;
+}
+
+static bool has_passed_down(const Entry *e, int d)
+{
+    for (int i = 0; i < e->n; i++)
+        if (e->asked[i].kind == DISPATCH && e->asked[i].device == d && e->asked[i].plan >= SKIPS &&
+            e->asked[i].plan <= FORWARD_PEND)
+            return true;
+    return false;
+}
+
+/* A device is about to be detached. It passed down what is on its way up now while a device stood below it: these sends come
+   before, whatever their routines still answer. */
+void number_sends_through(int d)
+{
+    for (int i = 0; i < n_packets; i++) {
+        Packet *p = packets[i];
+        if (lives(p) && p->open && !p->open->numbered && has_passed_down(p->open, d))
+            number(p->open, p->cancel);
+    }
 }
 
 Entry *answered(Entry *e, Reply reply, uint64_t answer)

@@ -1,5 +1,6 @@
 /* released_early.c: 1 preemption, UsedAfterFree. The completion routine counts in the extension after it has released the
-   remove lock. It is preempted between both, and the device is removed and deleted there. The right one only returns there. */
+   remove lock. It is preempted between both, and the device is removed and deleted there. The right one only returns there.
+   With -DAT_ONCE the read ends within its send, on a thread of its own: the removal detaches the device before that returns. */
 #include "race.h"
 
 typedef struct {
@@ -55,17 +56,36 @@ NTSTATUS DriverEntry(PDRIVER_OBJECT DriverObject, PUNICODE_STRING RegistryPath)
     return STATUS_SUCCESS;
 }
 
+static VOID ReadAndRemove(PDEVICE_OBJECT Device)
+{
+#ifdef AT_ONCE
+    pthread_t reader;
+    ObReferenceObject(Device);
+    pthread_create(&reader, NULL, send_read, Device);
+    WdmSend(Device, IRP_MJ_PNP, IRP_MN_REMOVE_DEVICE, 0);
+    pthread_join(reader, NULL);
+    ObDereferenceObject(Device);
+#else
+    REQUEST read;
+    Start(&read, Device, IRP_MJ_READ, 4);
+    WdmSend(Device, IRP_MJ_PNP, IRP_MN_REMOVE_DEVICE, 0);
+    Finish(&read);
+#endif
+}
+
 int main(void)
 {
+#ifdef AT_ONCE
+    const BOOLEAN late = FALSE;
+#else
+    const BOOLEAN late = TRUE;
+#endif
     PDRIVER_OBJECT driver = WdmLoadDriver("released_early", DriverEntry);
-    PDEVICE_OBJECT bottom = WdmCreateBottom(TRUE), top;
-    REQUEST read;
+    PDEVICE_OBJECT bottom = WdmCreateBottom(late), top;
     IoCreateDevice(driver, sizeof(EXTENSION), NULL, FILE_DEVICE_UNKNOWN, 0, FALSE, &top);
     IoInitializeRemoveLock(&((PEXTENSION)top->DeviceExtension)->RemoveLock, 'ecaR', 0, 0);
     ((PEXTENSION)top->DeviceExtension)->Lower = IoAttachDeviceToDeviceStack(top, bottom);
-    Start(&read, top, IRP_MJ_READ, 4);
-    WdmSend(top, IRP_MJ_PNP, IRP_MN_REMOVE_DEVICE, 0);
-    Finish(&read);
+    ReadAndRemove(top);
     IoDeleteDevice(bottom);
     return WdmFinish();
 }
