@@ -333,8 +333,8 @@ FAULTS = [
 # Hosts made wrong: edits of the host's files. Each is judged illegal on one of the runs, but for the last.
 # When an entry was begun, and when its call returned, stand behind it.
 ORDER = [("recording.c", "    Entry *e = calloc(1, sizeof *e);\n", "    Entry *e = calloc(1, sizeof *e + 2 * sizeof stamp);\n"),
-         ("recording.c", "    return e;\n}\n\n/* The entry is settled",
-          "    ((size_t *)(e + 1))[0] = stamp++;\n    return e;\n}\n\n/* The entry is settled"),
+         ("recording.c", "    return e;\n}\n\n/* The entry gets the next number",
+          "    ((size_t *)(e + 1))[0] = stamp++;\n    return e;\n}\n\n/* The entry gets the next number"),
          ("recording.c", "/* A new entry,", "size_t stamp;\n\n/* A new entry,"),
          ("recording.c", "    e->number = n_history;\n",
           "    e->number = n_history;\n    ((size_t *)(e + 1))[1] = stamp++;\n"),
