@@ -180,7 +180,8 @@ def try_judge(bench):
     text = subprocess.run([bench.room + "/scenarios", "finish"], capture_output=True, text=True, check=True).stdout
     for cut in range(1, 10):
         status, said = JUDGE.judge(bench.irpx, "".join(text.splitlines(True)[:cut]), 9)
-        wrong = None if status == JUDGE.WRONG and said[0] == f"short: {cut - 1} entries of at least 9" else said
+        entries = "1 entry" if cut == 2 else f"{cut - 1} entries"
+        wrong = None if status == JUDGE.WRONG and said[0] == f"short: {entries} of at least 9" else said
         bench.count("recorder's judge", f"cut behind line {cut}", wrong)
     status, said = JUDGE.judge(bench.irpx, text, 9)
     bench.count("recorder's judge", "whole", None if (status, said) == (JUDGE.LEGAL, ["legal 9"]) else said)
