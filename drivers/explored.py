@@ -330,8 +330,9 @@ def test_untested(run, bench):
 
 def test_detached(run, bench):
     """A routine lets the removal go on, and the device is detached before its send returns: the send stands before."""
-    made = Explored(run, bench, "detached", Options(bench.cc, HERE + "/races/released_early.c", 2, ["-DRIGHT", "-DAT_ONCE"]))
-    yield "a device is detached while a send comes back from it, every order", wrong_right(made.report())
+    for how in (["-DRIGHT", "-DAT_ONCE"], ["-DRIGHT", "-DAT_ONCE", "-DBY_WORK"]):
+        made = Explored(run, bench, "detached", Options(bench.cc, HERE + "/races/released_early.c", 2, how))
+        yield f"a device is detached while a send comes back from it, {' '.join(how[1:])}, every order", wrong_right(made.report())
 
 
 def test_parts(run, bench):

@@ -61,8 +61,11 @@ void seal(Entry *e, bool cancel)
         n_sends++;
 }
 
+/* Whether the device has sent the entry's packet down, by this call or asked in it. */
 static bool has_passed_down(const Entry *e, int d)
 {
+    if (e->op == CALL && e->by == d)
+        return true;
     for (int i = 0; i < e->n; i++)
         if (e->asked[i].kind == DISPATCH && e->asked[i].device == d && e->asked[i].plan >= SKIPS &&
             e->asked[i].plan <= FORWARD_PEND)
