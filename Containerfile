@@ -9,6 +9,6 @@ RUN apt-get update \
     && rm -rf /tmp/irp.deb /var/lib/apt/lists/*
 # The host is compiled here once, and whoever runs the image may use it.
 ENV XDG_CACHE_HOME=/cache
-RUN irp drive /usr/share/irp/lessons/01_first_dispatch/answer/driver.c && chmod -R a+rwX /cache
+RUN irp drive /usr/share/irp/drivers/samples/toaster.c && chmod -R a+rwX /cache
 WORKDIR /work
 ENTRYPOINT ["irp", "drive"]

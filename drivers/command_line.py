@@ -4,6 +4,7 @@ import argparse
 import os
 import re
 import shlex
+import sys
 
 import orders
 import usage
@@ -46,6 +47,8 @@ CHANGING = ("test", "args", "threads", "controls", "sanitize", "page_ends", "rou
             "cancel", "whole", "real", "wine", "points")
 
 
+# Their values are words for another program, and may begin with a dash.
+FOR_OTHERS = ("--cflag", "--args")
 SHAPES = {"seeds": (r"\d+\.\.\d+", "A..B is wanted, such as 1..20"),
           "part": (r"\d+/\d+", "I/N is wanted, such as 2/8"),
           "refuse": (r"\d+\+?|s\d+", "N, N+ or sSEED is wanted"),
@@ -211,10 +214,19 @@ def parser_of():
     return parser
 
 
+def joined(words):
+    """Returns the words, where a flag of FOR_OTHERS and its value are one word."""
+    made, words = [], iter(words)
+    for word in words:
+        value = next(words, None) if word in FOR_OTHERS else None
+        made.append(word if value is None else f"{word}={value}")
+    return made
+
+
 def read_arguments():
     """Returns what `irp drive` was asked."""
     parser = parser_of()
-    options = parser.parse_intermixed_args()
+    options = parser.parse_intermixed_args(joined(sys.argv[1:]))
     if options.scenario and not (options.every_order or options.schedule):
         parser.error("--scenario goes with --every-order or --schedule")
     absent = [it for it in options.source if not os.path.exists(it)]

@@ -9,7 +9,8 @@ import subprocess
 HERE = os.path.dirname(os.path.abspath(__file__))
 MOST_NAMES = 12  # of a kind
 # Of each kind of lines: the word for what came, and for what didn't.
-PAIRS = {"came": "uncame", "met": "unmet", "cancelled": "uncancelled", "taken": "refused"}
+PAIRS = {"came": "uncame", "met": "unmet", "cancelled": "uncancelled", "taken": "refused",
+         "knew": "unknown"}
 RANKS = ("apart", "unmade", "made")
 HOLDING = {"WdmIoMarkIrpPending", "WdmIoStartPacket", "WdmIoCsqInsertIrp"}  # without any, a driver holds no request
 MINORS = {"IRP_MN_START_DEVICE": "PNP", "IRP_MN_WAIT_WAKE": "POWER", "IRP_MN_QUERY_ALL_DATA": "SYSTEM_CONTROL"}
@@ -74,10 +75,13 @@ class Source:
     def __init__(self, drivers, objects, codes):
         self.codes, self.functions = codes, functions_of(objects)
         self.may_hold = bool(HOLDING & wanted_by(objects))
-        self.minors = set()
+        self.minors, self.near_codes = set(), set()
         for path in (file for _, files in drivers for file in files):
             with open(path, encoding="utf-8", errors="replace") as it:
-                self.minors |= set(re.findall(r"\bIRP_MN_\w+", it.read()))
+                text = it.read()
+            self.minors |= set(re.findall(r"\bIRP_MN_\w+", text))
+            if "IoControlCode" in text:
+                self.near_codes |= set(re.findall(r"\b(\w+)\s*\(", text))
 
     def never(self, covered, ran=None):
         """Returns what never ran or came, by kinds. `ran`: functions that did, where that is known otherwise."""
@@ -89,6 +93,7 @@ class Source:
                 "majors": [f"{major} to {name}" for name, major in majors if name in self.functions],
                 "minors": sorted(it for it in self.minors if by_value.get(it, "") not in covered.minors | {""}),
                 "controls": [names[it] for it in covered.missing("taken") if names.get(it)],
+                "codes": [it for it in covered.missing("knew") if it in self.functions & self.near_codes],
                 "errors": [it for it in covered.missing("met") if it in self.functions],
                 "cancels": [it for it in covered.missing("cancelled") if it in self.functions]}
 
@@ -128,7 +133,7 @@ def lines_of(never, functions=None):
     """Returns lines that tell what never ran or came. `functions`: with their places, where those are known."""
     named = functions if functions is not None else never["functions"]
     kinds = ((named, "never ran   {}"), (never["majors"], "never came  {}"), (never["minors"], "never came  {}"),
-             (never["controls"], "never taken {}"), (never["errors"], "no error    was met by {}"),
+             (never["controls"], "never taken {}"), (never["codes"], "no code     was known to {}: give --controls"), (never["errors"], "no error    was met by {}"),
              (never["cancels"], "no cancel   called {}"))
     return [text.format(some(names)) for names, text in kinds if names]
 

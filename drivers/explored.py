@@ -53,7 +53,7 @@ WRONG = [
     ("a device's names are touched by nobody", "properties.c",
      """    hold_host("IoGetDeviceInterfaces", &names, READS);""", "    hold_host(\"IoGetDeviceInterfaces\", &n_names, READS);",
      "race", "interface_seen"),
-    ("a device's properties are touched by nobody", "properties.c",
+    ("a device's properties are touched by nobody", "device_properties.c",
      """    hold_host("IoSetDevicePropertyData", &properties, WRITES);""",
      "    hold_host(\"IoSetDevicePropertyData\", &n_properties, WRITES);", "race", "property_seen"),
     ("who takes from an interlocked list only reads it", "resources.c", """    hold_host("InterlockedPopEntrySList", Head, SYNCS);""",

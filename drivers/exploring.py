@@ -15,6 +15,7 @@ import snapshots
 
 LEAST_MINUTES = 0.05  # that a piece gets, once those before it have used up the time
 NO_TIME = "not every order was made in the time: give more --minutes"
+QUICK_ALONE = "orders with one preemption were made, and no others in the time: give more --minutes"
 
 
 def fails(run):
@@ -172,6 +173,7 @@ class Exploration:
             print(f"{piece.scenario}: {piece.name}")
         made = self.tell(report, quiet=True)
         if made == 0 and not is_last:
+            self.found.covered.situate(piece.name, QUICK_ALONE, "unmade")
             return True
         self.keep(piece.name, report, made, began)
         if self.options.result:

@@ -3,10 +3,19 @@ what is told, and by which run: `told 3: Rule`, or `told 5, by --every-order: Ru
 
 import os
 import re
+import subprocess
 
 HERE = os.path.dirname(os.path.abspath(__file__))
 TOLD = re.compile(r"/\* told (\d+)(?:, by ([-\w ]+))?: (\w+) \*/")
 STACKS = ["clock", "mover"]
+# What such drivers call, by name.
+NAMES = """IoGetRelatedDeviceObject MmGetSystemRoutineAddress RtlInitializeBitMap RtlSetBits RtlClearBits RtlFindClearBitsAndSet
+    ExAllocateTimer ExSetTimer ExCancelTimer ExDeleteTimer KeSetCoalescableTimer IoConnectInterruptEx IoDisconnectInterruptEx
+    ExInitializeLookasideListEx ExAllocateFromLookasideListEx ExAcquireSpinLockExclusive ExAcquireSpinLockShared
+    ExAcquirePushLockExclusive ExAcquirePushLockShared IoInitializeWorkItem IoQueueWorkItemEx ExQueueWorkItem ExCreateCallback
+    ExRegisterCallback ObOpenObjectByPointer IoCheckShareAccess IoSetShareAccess IoRemoveShareAccess RtlULongAdd RtlULongMult
+    MmAllocatePagesForMdlEx PoRegisterPowerSettingCallback PoFxRegisterDevice KeStackAttachProcess IoGetDmaAdapter
+    AllocateCommonBuffer GetScatterGatherList MapTransfer""".split()
 
 
 def files():
@@ -41,10 +50,33 @@ def wrong(bench, path, number, run, rule, lines):
     yield f"newer: {path}, {number}: {rule}", None if well else f"it isn't {rule} at {' or '.join(lines)}: {first}"
 
 
+LACKS = """#include <wdm.h>
+void Call(POHANDLE handle, PDMA_ADAPTER adapter)
+{
+    PoFxCompleteDirectedPowerDown(handle);
+    adapter->DmaOperations->JoinDmaDomain(adapter, 0);
+}
+"""
+
+
+def names(bench):
+    """What newer drivers call is there; of what isn't, a compile gives the name."""
+    made = subprocess.run([HERE + "/interface", "--count"], capture_output=True, text=True, check=False)
+    yield "newer: names", made.stdout if made.returncode else None
+    source = bench.folder("newer lacks") + "/lacks.c"
+    with open(source, "w", encoding="utf-8") as it:
+        it.write(LACKS)
+    said = bench.ran("--missing", source).stdout
+    wanted = ("PoFxCompleteDirectedPowerDown (power)", "the member JoinDmaDomain (DMA)")
+    yield "newer: what isn't there", None if all(f": {it}\n" in said for it in wanted) else said
+
+
 def tests(bench):
     """Returns the tests: of each a name, and a call that gives names and complaints."""
     found = [(f"newer {it}", lambda it=it: right(bench, it)) for it in files()]
     found += [(f"newer {it} verified", lambda it=it: right(bench, it, "--verify", "--minutes", "0.4", "--processes", "1"))
-              for it in files() if it != "newer/dma.c"]  # whose test goes on where memory is refused
+              for it in files()]
+    found += [(f"newer pofx version {it}", lambda it=it: right(bench, "newer/pofx.c", f"--cflag=-DPO_FX_VERSION={it}")) for it in (2, 3)]
+    found += [("newer names", lambda: names(bench))]
     return found + [(f"newer {it} wrong {key[0]}", lambda it=it, key=key, lines=lines: wrong(bench, it, *key, lines))
                     for it in files() for key, lines in mistakes_in(it)]

@@ -380,7 +380,7 @@ WRONG_HOSTS = [
 # What the host's own test finds in untested/mistakes.c: rules, each with the function that it is told of.
 MISTAKES = [("Touched", "in Write"), ("PoolOverrun", "in Write"), ("IrqlReturn", "in CancelWait"),
             ("InformationTooLong", "in Control"), ("Mark", "ReadDone"), ("Status", "in Flush, dispatch for FLUSH_BUFFERS"),
-            ("NotOwner", "in Start"), ("Lost", "in Pnp, dispatch for PNP"), ("InFlight", "in Pnp")]
+            ("KeptOverCleanup", "in Wait"), ("NotOwner", "in Start"), ("Lost", "in Pnp, dispatch for PNP"), ("InFlight", "in Pnp")]
 # The right shapes. The wrong ones are in FAULTS.
 RIGHT_SHAPES = """
     SkipDown ForwardUnmarked ForwardMarked MarkedRoutineSilent MarkedTwice ForwardNoRoutine OnErrorOnly
@@ -472,7 +472,7 @@ HOSTILE = {
     # On a machine that has no processor for it, its time is over before it counts as a hang.
     "spins": [" in Spin", " runs on", "KeWaitForSingleObject at " + at("spins", "KeWaitForSingleObject"),
               "IRP 1.2 (READ), which is in Read"],
-    "forgets_after_paging": ["FAULT NotDrained", "2 held: tag ", "in Pnp (dispatch for PNP), left by Pnp after IoCallDriver at "
+    "forgets_after_paging": ["FAULT NotDrained", "6 held: tag ", "in Pnp (dispatch for PNP), left by Pnp after IoCallDriver at "
                              + at("forgets_after_paging", "return IoCallDriver(Ext->Lower, Irp);"),
                              ", and by forgets_after_paging.c:", " in UsageDone"],
     "uses_no_packet": [STOPPED + "a pointer that is no packet", "at uses_no_packet.c:7"],

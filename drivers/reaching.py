@@ -5,6 +5,7 @@ import os
 import re
 from xml.etree import ElementTree
 
+import controls
 import planted
 
 HERE = os.path.dirname(os.path.abspath(__file__))
@@ -240,6 +241,101 @@ def own_packet(bench):
         yield f"an own packet at the removal, {name}", NO_COMPLAINT if well else f"status {status}: {said[-900:]}"
 
 
+# Control codes by macros of CTL_CODE, by one of the driver's own over it, in an enum, a table, a comparison, and without it.
+CODES = """#include <wdm.h>
+#define MINE(n) CTL_CODE(FILE_DEVICE_UNKNOWN, 0x800 + (n), METHOD_BUFFERED, FILE_ANY_ACCESS)
+#define IOCTL_A MINE(1)
+#define OTHER ((0x22u << 16) | (0x903 << 2))
+enum { IOCTL_B = CTL_CODE(FILE_DEVICE_UNKNOWN, 0x810, METHOD_NEITHER, FILE_ANY_ACCESS) };
+static const ULONG table[] = { MINE(7) };
+ULONG Find(ULONG code, ULONG other)
+{
+    switch (code) {
+    case IOCTL_A: return 1;
+    case MINE(2): return 2;
+    case IOCTL_B: return table[0];
+    case OTHER: return 3;
+    }
+    return code == other || code == MINE(3);
+}
+"""
+FOUND = {0x222004: "IOCTL_A", 0x222008: "MINE(2)", 0x22200C: "MINE(3)", 0x222043: "IOCTL_B", 0x22240C: "OTHER",
+         0x22201C: "CTL_CODE(FILE_DEVICE_UNKNOWN, 0x800 + (7), METHOD_BUFFERED, 0)"}
+# A driver that knows a code which stands nowhere.
+HIDDEN = """#include <wdm.h>
+static NTSTATUS Control(PDEVICE_OBJECT DeviceObject, PIRP Irp)
+{
+    const ULONG code = IoGetCurrentIrpStackLocation(Irp)->Parameters.DeviceIoControl.IoControlCode;
+    UNREFERENCED_PARAMETER(DeviceObject);
+    const NTSTATUS status = (code >> 2 & 0xfff) == 0x977 ? STATUS_SUCCESS : STATUS_INVALID_DEVICE_REQUEST;
+    Irp->IoStatus.Status = status;
+    Irp->IoStatus.Information = 0;
+    IoCompleteRequest(Irp, IO_NO_INCREMENT);
+    return status;
+}
+static NTSTATUS Open(PDEVICE_OBJECT DeviceObject, PIRP Irp)
+{
+    UNREFERENCED_PARAMETER(DeviceObject);
+    Irp->IoStatus.Status = STATUS_SUCCESS;
+    IoCompleteRequest(Irp, IO_NO_INCREMENT);
+    return STATUS_SUCCESS;
+}
+NTSTATUS DriverEntry(PDRIVER_OBJECT DriverObject, PUNICODE_STRING RegistryPath)
+{
+    PDEVICE_OBJECT device;
+    UNREFERENCED_PARAMETER(RegistryPath);
+    DriverObject->MajorFunction[IRP_MJ_CREATE] = DriverObject->MajorFunction[IRP_MJ_CLOSE] = Open;
+    DriverObject->MajorFunction[IRP_MJ_CLEANUP] = Open;
+    DriverObject->MajorFunction[IRP_MJ_DEVICE_CONTROL] = Control;
+    return IoCreateDevice(DriverObject, 0, NULL, FILE_DEVICE_UNKNOWN, 0, FALSE, &device);
+}
+"""
+
+
+def codes(bench):
+    """Control codes are found in whatever way a source makes them; where a dispatch takes none that is known, that is told."""
+    folder = bench.folder("codes")
+    for name, text in (("codes", CODES), ("hidden", HIDDEN)):
+        with open(f"{folder}/{name}.c", "w", encoding="utf-8") as it:
+            it.write(text)
+    made = controls.candidates(bench.cc, ["-fshort-wchar", f"-I{HERE}/include"], [f"{folder}/codes.c"])
+    yield "control codes in a source", NO_COMPLAINT if made == FOUND else str({hex(it): made[it] for it in made})
+    said, status = run(bench, f"{folder}/hidden.c")
+    told = re.search("^no code     was known to Control: give --controls$", said, re.M)
+    unmade = re.search("^not made .*each control code that the source names.*: no driver took a control code", said, re.M)
+    yield "a dispatch whose codes aren't known", NO_COMPLAINT if told and unmade and not status else said[-900:]
+    said, status = run(bench, "--controls", "0x2225dc", f"{folder}/hidden.c")
+    yield "and where one is given", NO_COMPLAINT if not status and "no code " not in said else said[-900:]
+
+
+# Drivers of untested/ with a mistake: its number, what it is, the rule, where that is told, and of what.
+BUGS = [("holds", 1, "power comes back, and what is held isn't answered", "NotRestored", "NotRestored", "IRP_MN_SET_POWER to PowerDeviceD0"),
+        ("holds", 2, "power comes back, and all is still held", "NotRestored", "NotRestored", "IRP_MN_SET_POWER to PowerDeviceD0"),
+        ("holds", 3, "a removal is called off, and all is still held", "NotRestored", "NotRestored", "IRP_MN_CANCEL_REMOVE_DEVICE"),
+        ("holds", 4, "a stop is called off, and all is still held", "NotRestored", "NotRestored", "IRP_MN_CANCEL_STOP_DEVICE"),
+        ("holds", 5, "a device starts again, and all is still held", "NotRestored", "NotRestored", "IRP_MN_START_DEVICE"),
+        ("usage", 1, "a paging file counts that is refused below", "UsageKept", "UsageKept", "DO_POWER_PAGABLE cleared"),
+        ("usage", 2, "the flag stays for one that is refused below", "UsageKept", "UsageKept", "DO_POWER_PAGABLE cleared"),
+        ("usage", 3, "only the count stays", "UsageKept", "UsageKept", "0x1 at byte 8 of its device extension"),
+        ("waits", 1, "a queue gives a request of another file", "CleanupOfAnother", "CleanupOfAnother", "IRP_MJ_CLEANUP of the file"),
+        ("waits", 2, "a file is closed, and its waits are held", "KeptOverCleanup", "KeptOverCleanup", "still holds it"),
+        ("waits", 3, "STATUS_PENDING for a wait that isn't kept", "Returned", None, "in Control, dispatch for DEVICE_CONTROL"),
+        ("waits", 4, "the same, which isn't completed", "Returned", None, "in Control, dispatch for DEVICE_CONTROL")]
+
+
+def bugs(bench, name):
+    """Gives a complaint where a mistake of such a driver isn't told by rule, driver, file and line, or where its right
+    counterpart isn't clean."""
+    source = f"{HERE}/untested/{name}.c"
+    for number, what, rule, at, words in ((it[1:]) for it in BUGS if it[0] == name):
+        said, status = run(bench, "--cflag", f"-DBUG={number}", source)
+        place = re.escape(place_in(source, f"told: {at}")) if at else rf"{name}\.c:\d+"
+        told = re.search(rf"^host: FAULT {rule}\b.*: {place} .*{re.escape(words)}", said, re.M)
+        yield f"{what}: {rule}", NO_COMPLAINT if told and status == 1 else f"status {status}: {said[-1200:]}"
+    said, status = run(bench, source)
+    yield f"{name} without a mistake", NO_COMPLAINT if not status else f"status {status}: {said[-1200:]}"
+
+
 def with_its_flag(bench):
     """Gives a complaint where a driver that sets DO_BUFFERED_IO has no system buffer. Without it hostile/ tells that."""
     said, status = run(bench, "--cflag=-DRIGHT", HERE + "/hostile/has_no_buffer.c")
@@ -253,5 +349,7 @@ def tests(bench):
             ("own test, a named file", lambda: named_file(bench)), ("own test, seldom", lambda: seldom(bench)),
             ("own test, asleep", lambda: asleep(bench)), ("own test, an own packet", lambda: own_packet(bench)),
             ("own test, a buffer's flag", lambda: with_its_flag(bench)),
+            ("own test, codes", lambda: codes(bench)),
+            *((f"own test, bugs of {it}", lambda it=it: bugs(bench, it)) for it in ("holds", "usage", "waits")),
             ("own test, children", lambda: children(bench)),
             *((f"own test, stack {it}", lambda it=it: silent(bench, it)) for it in planted.FOR_OWN_TEST)]

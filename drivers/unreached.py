@@ -8,7 +8,6 @@ import json
 import os
 import re
 import subprocess
-import tempfile
 
 HERE = os.path.dirname(os.path.abspath(__file__))
 FLAGS = ["--coverage", "-fno-early-inlining"]  # else a function that is inlined everywhere has no count
@@ -105,42 +104,3 @@ def lines_told(files):
         found.append(f"lines       {file.place(ranges(missed)) if missed else os.path.basename(file.path) + ': all'} "
                      f"({len(missed)} of {len(file.lines)} never ran)")
     return found
-
-
-MOST_CODES = 200
-CONTROL = re.compile(r"\b0[xX][0-9a-fA-F]{5,8}\b")
-
-
-def candidates(compiler, flags, sources):
-    """Returns the control codes that may stand in the sources, each with its name, or None: macros of CTL_CODE that they
-    name, and such numbers."""
-    found = {}
-    for source in sources:
-        with open(source, encoding="utf-8", errors="replace") as it:
-            text = it.read()
-        for code, name in macros(compiler, flags, source, text):
-            found[code] = name
-        for code in CONTROL.findall(text):
-            found.setdefault(int(code, 16), None)
-    may_be = [it for it in found if 1 << 16 < it < 1 << 32 and it >> 16 != 0xC000]
-    return {it: found[it] for it in sorted(may_be, key=lambda it: found[it] is None)[:MOST_CODES]}
-
-
-def macros(compiler, flags, source, text):
-    """Returns the macros of CTL_CODE that a source names: values and names."""
-    words = [compiler, *flags, "-E", "-dM", source]
-    made = subprocess.run(words, capture_output=True, text=True, errors="replace", check=False)
-    bodies = dict(re.findall(r"^#define (\w+) (.*)$", made.stdout, re.M))
-    codes = sorted(it for it in set(re.findall(r"\w+", text)) if "CTL_CODE" in bodies.get(it, "") and it != "CTL_CODE")
-    if not codes:
-        return []
-    values = f"static const unsigned wdm_codes[] = {{ {', '.join(codes)} }};\n"
-    given = f'#include "{os.path.abspath(source)}"\n__attribute__((used, section(".wdm_codes"))) {values}'
-    with tempfile.TemporaryDirectory() as room:
-        words = [compiler, *flags, "-w", "-O0", "-x", "c", "-", "-c", "-o", room + "/codes.o"]
-        made = subprocess.run(words, input=given, capture_output=True, text=True, errors="replace", check=False)
-        words = ["objcopy", "-O", "binary", "--only-section=.wdm_codes", room + "/codes.o", room + "/codes"]
-        if made.returncode or subprocess.run(words, capture_output=True, check=False).returncode:
-            return []
-        with open(room + "/codes", "rb") as it:
-            return list(zip(memoryview(it.read()).cast("I"), codes))

@@ -20,6 +20,7 @@ PATIENCE = 10  # seconds: runs stand side by side, and one that gets no processo
 FLAGS = ["-finstrument-functions", f"-finstrument-functions-exclude-file-list={os.path.dirname(os.path.abspath(__file__))}/include/"]
 # What is told of memory is told best where pages end with blocks: at the line itself.
 MEMORY = ("PoolOverrun", "WrittenAfterFree", "UsedAfterFree")
+TIMES_AGAIN = 3  # that a run is made again which no fault of the host's tells, but the judge
 
 
 # The parts of a plan that can be had alone, and what each does.
@@ -101,6 +102,10 @@ def key_of(line):
     return found.groups() if found else re.sub(r"\d+", "N", line)
 
 
+def is_by_judge(line):
+    return line.startswith(("illegal", "not judged"))
+
+
 def taken_by(run):
     """Returns what the run took away, and where, or None."""
     refused = re.search(r"^host: memory was refused .*first to (.*)$", run.said, re.M)
@@ -116,6 +121,14 @@ def complaints_of(run):
         return told
     last = [line for line in run.said.splitlines() if line.startswith("host: STOPPED")]
     return last[:1] or ["; ".join(run.complaints())]
+
+
+class Fault:
+    """A fault that runs told: its line, the flags of its best run, what that took away, and when it was found."""
+
+    def __init__(self, line, flags, taken, seconds, transcript):
+        self.line, self.flags, self.taken, self.seconds, self.transcript = line, flags, taken, seconds, transcript
+        self.is_told = False
 
 
 class Verification:
@@ -154,7 +167,7 @@ class Verification:
         for line in found:
             known = self.faults.get(key_of(line))
             if known is None or (rule_of(line) in MEMORY and "page_ends" in flags):
-                self.faults[key_of(line)] = [line, flags, taken_by(run), time.monotonic() - self.began, False]
+                self.faults[key_of(line)] = Fault(line, flags, taken_by(run), time.monotonic() - self.began, run.transcript)
 
     def again(self, flags):
         """Returns the command that makes a run again."""
@@ -171,14 +184,23 @@ class Verification:
         files = [shlex.quote(it) for it in self.options.source if it not in its]
         return " ".join([*words, *([words_of(flags)] if flags else []), *files])
 
-    def tell_found(self):
-        """Tells the faults that weren't told."""
+    def comes_again(self, fault):
+        """Returns lines for how often the run of a fault tells it again, where that depends on the threads."""
+        if not is_by_judge(fault.line):
+            return ""
+        runs = [self.one(fault.flags) for _ in range(TIMES_AGAIN)]
+        made = [it[0] for it in runs if it]
+        same = sum(any(is_by_judge(line) for line in complaints_of(it)) for it in made)
+        return f"\n  came again  in {same} of {usage.counted(len(made), 'run')}\n  transcript  {fault.transcript}"
+
+    def tell_found(self, but=()):
+        """Tells the faults that weren't told, but not those by some rules yet."""
         for fault in self.faults.values():
-            line, flags, taken, seconds, is_told = fault
-            if not is_told:
-                taken = f"\n  {taken}" if taken else ""
-                print(f"{line}{taken}\n  again with  {self.again(flags)}\n  found       after {seconds:.1f} s", flush=True)
-                fault[4] = True
+            if not fault.is_told and rule_of(fault.line) not in but:
+                fault.is_told = True
+                taken = f"\n  {fault.taken}" if fault.taken else ""
+                print(f"{fault.line}{taken}\n  again with  {self.again(fault.flags)}{self.comes_again(fault)}\n"
+                      f"  found       after {fault.seconds:.1f} s", flush=True)
 
     def progress(self, kind):
         if sys.stderr.isatty():
@@ -188,13 +210,13 @@ class Verification:
                              f"{kind.name} \x1b[K")
 
     def all_of(self, kinds, pool):
-        """Makes the runs of these kinds, one kind behind the other, and tells what they found."""
-        runs = [(kind, flags) for kind in kinds for flags in kind.flags]
-        for (kind, flags), made in zip(runs, pool.map(lambda it: self.one(it[1]), runs)):
-            self.take(kind, flags, made)
+        """Makes the runs of these kinds, one kind behind the other, and tells what each found as soon as it has ended."""
+        runs = {pool.submit(self.one, flags): (kind, flags) for kind in kinds for flags in kind.flags}
+        for made in concurrent.futures.as_completed(runs):
+            kind, flags = runs[made]
+            self.take(kind, flags, made.result())
             self.progress(kind)
-            if kind.part:
-                self.tell_found()
+            self.tell_found(() if kind.part else MEMORY)
         if sys.stderr.isatty():
             sys.stderr.write("\r\x1b[K")
         self.tell_found()
@@ -217,8 +239,8 @@ def sum_up(found, kinds, never):
     """Prints the runs of each kind, the faults by rule, and what never ran."""
     made = ", ".join(f"{it.made} {it.name}" + (f" ({it.bad} bad)" if it.bad else "") for it in kinds)
     rules = {}
-    for line, *_ in found.faults.values():
-        rules[rule_of(line)] = rules.get(rule_of(line), 0) + 1
+    for fault in found.faults.values():
+        rules[rule_of(fault.line)] = rules.get(rule_of(fault.line), 0) + 1
     print(f"runs        {made}")
     if rules:
         print("faults      " + ", ".join(f"{n} {rule}" for rule, n in sorted(rules.items())))
@@ -238,6 +260,7 @@ def counted(found, pool, has_short_test):
     flags = [dict(count, whole=1), count] if has_short_test else [count]
     plain, made = Kind("plain", None, [{}]), list(pool.map(found.one, flags))
     found.take(plain, {}, made[0])
+    found.tell_found(MEMORY)
     return made[-1][0], made[0][0], plain
 
 
@@ -245,7 +268,7 @@ def verify(options, make_run, has_short_test):
     """Makes all runs, and sums up. `make_run(options, number)` gives a judged run. Returns the exit status, and what was
     found."""
     found = Verification(options, make_run)
-    with concurrent.futures.ThreadPoolExecutor(RUNS_A_PROCESSOR * (options.processes or os.cpu_count())) as pool:
+    with concurrent.futures.ThreadPoolExecutor(options.processes or RUNS_A_PROCESSOR * os.cpu_count()) as pool:
         short, whole, plain = counted(found, pool, has_short_test)
         kinds = chosen(plan_of(short, whole), options)
         found.planned = 1 + sum(len(it.flags) for it in kinds)

@@ -16,16 +16,8 @@ TABLE = HERE + "/kit_layouts.txt"
 HOST = [os.environ.get("CC", "cc"), "-fshort-wchar", "-D_GNU_SOURCE", f"-I{os.path.dirname(HERE)}/drivers/include"]
 KIT = ["x86_64-w64-mingw32-gcc", "-isystem", "/usr/x86_64-w64-mingw32/include/ddk"]
 MAY_DIFFER = {
-    "DEVICE_OBJECT.-": "the kit's alignment of 16 makes it 336; mingw-w64 lacks that",
-    "DRIVER_OBJECT.-": "the host's name and number stand behind it",
-    "ERESOURCE": "the host's own: it counts each reader",
-    "IO_REMOVE_LOCK": "the host's own: it knows each tag",
-    "KLOCK_QUEUE_HANDLE": "the host's own",
-    "NPAGED_LOOKASIDE_LIST": "the host's own",
-    "PAGED_LOOKASIDE_LIST": "the host's own",
-    "SLIST_HEADER": "the host's own: it is under a lock",
-    "VPB": "no file systems",
-    "SCSI_REQUEST_BLOCK": "no storage ports",
+    "DEVICE_OBJECT.-": "the kit aligns it to 16, so it has 336 as here; mingw-w64 doesn't",
+    "DRIVER_OBJECT.-": "the host's name and number stand behind it; no driver allocates one",
 }
 
 

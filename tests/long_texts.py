@@ -138,7 +138,7 @@ def why(irp_view, file):
     for form, words in (
         (r"nothing is wrong: (\d+) entries, legal\n", "legal"),
         (r"entry (\d+)\b", "illegal"),
-        (r"irp_view: transcript refused: line (\d+)\b", "line"),
+        (r"irp: transcript refused: line (\d+)\b", "line"),
     ):
         found = re.match(form, ran.stdout + ran.stderr)
         if found:
@@ -187,7 +187,7 @@ def fault_of_listing(irp_view, words, text, wanted, line):
             return "other entries are shown"
     if ran.returncode != (1 if line else 0):
         return f"status {ran.returncode}"
-    if not told.startswith(f"irp_view: transcript refused: line {line}" if line else "") or bool(told) != bool(line):
+    if not told.startswith(f"irp: transcript refused: line {line}" if line else "") or bool(told) != bool(line):
         return f"tells {told!r}"
     if int(memory) > MOST_MEMORY:
         return f"took {memory} KiB"

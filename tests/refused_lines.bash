@@ -31,7 +31,7 @@ check() {
     lines=$(before "$1" | wc -l)
     [ "$front" = "$2" ] || place=", column $((${#front} + 1))"
     case $3 in '"'*) place+=', ' ;; *) place+=': ' ;; esac
-    wanted="irp_view: transcript refused: line $((lines + 1))$place$3"
+    wanted="irp: transcript refused: line $((lines + 1))$place$3"
     got=$({ before "$1" && echo "${2/^/}"; } | timeout 60 "$irp_view" why 2>&1)
     [ "$got" = "$wanted" ] && return
     wrong=$((wrong + 1))

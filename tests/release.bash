@@ -53,7 +53,10 @@ with_stand_ins() {
 # The same bytes, whoever makes them and wherever.
 (umask 022 && TZ=UTC with_stand_ins --out "$room/one" >/dev/null)
 (umask 077 && TZ=Asia/Tokyo LC_ALL=C with_stand_ins --out "$room/two" >/dev/null)
-meets 'a tarball and a package' [ "$(find "$room/one" -name 'irp-*.tar.gz' -o -name 'irp_*.deb' | wc -l)" -eq 2 ]
+meets 'two tarballs and a package' [ "$(find "$room/one" -name 'irp-*.tar.gz' -o -name 'irp_*.deb' | wc -l)" -eq 3 ]
+answers=$(echo "$room"/one/irp-*-answers.tar.gz)
+meets 'an answer for each lesson, and notes' [ "$(tar -tzf "$answers" | grep -cE 'answer/(driver\.c|history|protocol)|/notes\.html$')" -eq 16 ]
+meets 'no answer in the package' [ "$(tar -tzf "$room"/one/irp-*-linux-*.tar.gz | grep -c '/answer/\|teaching/notes')" -eq 0 ]
 meets 'the same bytes twice' diff -r "$room/one" "$room/two"
 meets 'a version that is none' [ "$(with_stand_ins --version 'a b' >/dev/null 2>&1; echo $?)" -eq 2 ]
 
@@ -62,7 +65,7 @@ mkdir -p "$room/prefix/bin"
 touch "$room/prefix/bin/mine"
 with_stand_ins --install "$room/prefix" >/dev/null
 meets 'an installed irp' "$room/prefix/bin/irp" version
-tar -tzf "$room"/one/*.tar.gz | sed -n 's|^[^/]*/\(.*[^/]\)$|\1|p' | sort >"$room/unpacked"
+tar -tzf "$room"/one/irp-*-linux-*.tar.gz | sed -n 's|^[^/]*/\(.*[^/]\)$|\1|p' | sort >"$room/unpacked"
 (cd "$room/prefix" && find . ! -type d ! -name mine ! -name installed -printf '%P\n') | sort >"$room/installed"
 meets 'what is installed is what is unpacked' diff "$room/unpacked" "$room/installed"
 with_stand_ins --uninstall "$room/prefix" >/dev/null

@@ -60,7 +60,7 @@ stands_before() {
     got=$("$irp_view" "${@:4}" "$room/refused" 2>"$room/told")
     status=$?
     [ "$status" = 1 ] && [ "$got" = "$wanted" ] &&
-        [ "$(cat "$room/told")" = "irp_view: transcript refused: line $1$2" ] && return
+        [ "$(cat "$room/told")" = "irp: transcript refused: line $1$2" ] && return
     wrong=$((wrong + 1))
     echo "failed: view: ${*:4} before line $1, which is refused: status $status, $(cat "$room/told"), $got"
 }

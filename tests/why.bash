@@ -152,7 +152,7 @@ entry 4096 (line 4098): IoAllocateIrp(1 location)
 END
 
 # Wrong words; they are judged before the input is read. Then a file that isn't there, and a folder.
-echo 'irp_view: usage: irp_view why, text, page or packet SLOT USE, then [FILE]; see irp_view --help' >"$room/usage"
+echo 'irp: usage: irp why, text, page or packet SLOT USE, then [FILE]; see irp --help' >"$room/usage"
 while read -r words; do
     # shellcheck disable=SC2086
     run $words <.
@@ -169,10 +169,10 @@ packet
 packet 0
 packet 0 one
 END
-echo "irp_view: $room/no_such_file: can't be opened: there is no such file" >"$room/failed"
+echo "irp: $room/no_such_file: can't be opened: there is no such file" >"$room/failed"
 run why "$room/no_such_file"
 meets 'a file that is not there' left 5 /dev/null "$room/failed"
-echo 'irp_view: input or output failed' >"$room/failed"
+echo 'irp: input or output failed' >"$room/failed"
 run why <.
 meets 'a folder as standard input' left 5 /dev/null "$room/failed"
 timeout 300 "$irp_view" why "$examples"/completed_twice.transcript >/dev/full 2>"$room/errors"

@@ -26,8 +26,12 @@ static SC_HANDLE start(const char *path)
     GetFullPathNameA(path, sizeof full, full, NULL);
     service = CreateServiceA(manager, service_name, service_name, SERVICE_ALL_ACCESS, SERVICE_KERNEL_DRIVER,
                              SERVICE_DEMAND_START, SERVICE_ERROR_NORMAL, full, NULL, NULL, NULL, NULL, NULL);
-    if (!service)
+    if (!service) { /* of an earlier call, maybe with a player.sys elsewhere */
         service = OpenServiceA(manager, service_name, SERVICE_ALL_ACCESS);
+        if (service)
+            ChangeServiceConfigA(service, SERVICE_NO_CHANGE, SERVICE_NO_CHANGE, SERVICE_NO_CHANGE, full, NULL, NULL, NULL,
+                                 NULL, NULL, NULL);
+    }
     if (!service || (!StartServiceA(service, 0, NULL) && GetLastError() != ERROR_SERVICE_ALREADY_RUNNING))
         fail("the driver doesn't start (is test signing on?)");
     return service;
@@ -117,7 +121,11 @@ int main(int argc, char **argv)
     HANDLE device = CreateFileA("\\\\.\\IrpxPlayer", GENERIC_READ | GENERIC_WRITE, 0, NULL, OPEN_EXISTING, 0, NULL);
     if (device == INVALID_HANDLE_VALUE)
         fail("the device can't be opened");
-    printf("%ld scripts\n", feed(feeds, device, answers, at, code));
+    const long fed = feed(feeds, device, answers, at, code);
+    if (fed > 0)
+        printf("%ld scripts\n", fed);
+    else
+        printf("all scripts were played before: delete %s and %s.at to play them again\n", argv[3], argv[3]);
     CloseHandle(device);
     ControlService(service, SERVICE_CONTROL_STOP, &status);
     DeleteService(service);

@@ -11,6 +11,7 @@ import re
 import subprocess
 import tempfile
 
+import answers
 import repository
 from packing import File
 from repository import TOP, bytes_of
@@ -23,7 +24,7 @@ COMPLETIONS = {"bash": "share/bash-completion/completions/irp", "zsh": "share/zs
 
 def scripts():
     """Returns the scripts of an installed tree, and the modules that they import, and those that these import."""
-    found = [it for it in repository.files() if it in ("drivers/run", "lessons/check")
+    found = [it for it in repository.files() if it in ("drivers/run", "lessons/check", "lessons/grade", "lessons/slides")
              or it.startswith("bin/") and it.count("/") == 1 and it not in OURS
              or it.startswith("tests/player/") and not it.endswith(("/test.py", ".md"))]
     for path in found:  # which grows meanwhile
@@ -40,6 +41,8 @@ def is_of_host(path):
 
 def place_of(path, its_scripts):
     """Returns the places of a file of the repository: one or none."""
+    if answers.is_answer(path):
+        return []
     if path.endswith(".md") and path.startswith(("README", "docs/", "drivers/")) or path.startswith("docs/pictures/"):
         return [f"{DOC}/{path}"]
     if path.startswith(("lessons/", "examples/", "schema/", "drivers/samples/")):
@@ -94,6 +97,6 @@ def made(release):
             for place in place_of(path, its_scripts)}
     for name in repository.PROGRAMS:
         tree[f"{LIB}/programs/{name}"] = File(repository.program(name, release.is_proved), True)
-    tree |= manual() | completions() | links()
+    tree |= manual() | completions() | links() | {f"{SHARE}/{answers.WHYS}": answers.whys()}
     tree[f"{LIB}/release"] = File(release.text({place: it.data for place, it in tree.items()}))
     return dict(sorted(tree.items()))

@@ -118,6 +118,8 @@ static VOID FillPowerStates(PDEVICE_CAPABILITIES Capabilities)
 }
 
 VOID (*at_removal)(VOID);
+BOOLEAN refuses_usage;
+ULONG n_usages_refused;
 
 /* The device goes at once, whatever else is pended. */
 static NTSTATUS Pnp(PDEVICE_OBJECT DeviceObject, PIRP Irp)
@@ -126,7 +128,9 @@ static NTSTATUS Pnp(PDEVICE_OBJECT DeviceObject, PIRP Irp)
     const UCHAR minor = IoGetCurrentIrpStackLocation(Irp)->MinorFunction;
     const BOOLEAN done = minor <= IRP_MN_CANCEL_STOP_DEVICE || minor == IRP_MN_QUERY_CAPABILITIES ||
         minor == IRP_MN_SURPRISE_REMOVAL || minor == IRP_MN_DEVICE_USAGE_NOTIFICATION;
-    const BOOLEAN fails = (ext->Style & WDM_BOTTOM_NO_START) && minor == IRP_MN_START_DEVICE;
+    const BOOLEAN refuses = refuses_usage && minor == IRP_MN_DEVICE_USAGE_NOTIFICATION;
+    const BOOLEAN fails = refuses || ((ext->Style & WDM_BOTTOM_NO_START) && minor == IRP_MN_START_DEVICE);
+    n_usages_refused += refuses;
     if (minor == IRP_MN_REMOVE_DEVICE && at_removal)
         at_removal();
     if (minor == IRP_MN_QUERY_CAPABILITIES)

@@ -9,6 +9,9 @@
 NTSTATUS BottomAnswer(PDEVICE_OBJECT DeviceObject, PIRP Irp);
 /* Called by a bottom device in its IRP_MN_REMOVE_DEVICE, or NULL. */
 extern VOID (*at_removal)(VOID);
+/* Whether a bottom device refuses IRP_MN_DEVICE_USAGE_NOTIFICATION, and how often one has. */
+extern BOOLEAN refuses_usage;
+extern ULONG n_usages_refused;
 /* Whether the bottom device has packets that it hasn't completed. */
 BOOLEAN bottom_holds(PDEVICE_OBJECT device);
 

@@ -100,6 +100,7 @@ void check_work_gone(const void *from, size_t size, const char *what); /* more_w
 void check_given_gone(const void *from, size_t size, const char *what); /* given.c */
 void check_dma_gone(const void *from, size_t size, const char *what);   /* dma_memory.c, as is the next one */
 void check_dma_completed(PMDL mdl);
+void check_pofx_gone(const void *from, size_t size, const char *what);  /* pofx.c */
 
 /* watching.c, completions.c */
 void watch_sent(Packet *p, int by, uint64_t use);

@@ -122,6 +122,8 @@ void check_completion(const Packet *p, int by, ULONG status, uint64_t informatio
         return;
     const IO_STACK_LOCATION *l = raw_at((Packet *)p, p->current);
     check_information(p, l, by, status, information);
+    if (l->MajorFunction == IRP_MJ_DEVICE_CONTROL)
+        control_ended(devices[by].driver->HostNumber, status);
     if (l->MajorFunction == IRP_MJ_PNP)
         check_pnp(p, l, by, status);
     else if (l->MajorFunction == IRP_MJ_POWER)

@@ -20,7 +20,7 @@ typedef struct {
     Row rows[N_SITUATIONS];
     Function ran[MAX_RAN], routines[MAX_RAN], cancels[MAX_RAN];
     const void *dispatches[MAX_DRIVERS][MAJORS];
-    bool came[MAX_DRIVERS][MAJORS], minors[MAJORS][MINORS];
+    bool came[MAX_DRIVERS][MAJORS], minors[MAJORS][MINORS], knew[MAX_DRIVERS]; /* knew: a control code */
     Code codes[MOST_CODES];
     int n_codes;
 } Covered;
@@ -76,6 +76,13 @@ void request_came(int driver, UCHAR major, UCHAR minor)
         return;
     covered->came[driver][major] = true;
     covered->minors[major][minor] = true;
+}
+
+/* A driver ends a control: unless it says that it doesn't know the code, it does. */
+void control_ended(int driver, ULONG status)
+{
+    if (covered && driver >= 0 && status != (ULONG)STATUS_INVALID_DEVICE_REQUEST && status != (ULONG)STATUS_NOT_SUPPORTED)
+        covered->knew[driver] = true;
 }
 
 /* At the end of a run: the dispatches that drivers have then. */
@@ -168,6 +175,9 @@ static void write_majors(FILE *out, int driver)
         if (fn && majors_of(driver, fn) <= MAJORS / 2)
             fprintf(out, "%s %s %s\n", covered->came[driver][m] ? "came" : "uncame", function_name(fn), major_name(m));
     }
+    const void *fn = covered->dispatches[driver][IRP_MJ_DEVICE_CONTROL];
+    if (fn && covered->came[driver][IRP_MJ_DEVICE_CONTROL] && majors_of(driver, fn) <= MAJORS / 2)
+        fprintf(out, "%s %s\n", covered->knew[driver] ? "knew" : "unknown", function_name(fn));
 }
 
 static void write_functions(FILE *out, const Function *functions, const char *done, const char *otherwise)

@@ -8,17 +8,21 @@
 enum { FENCE = 16, FENCED = 0xFD };
 static Adapter *adapters;
 
-static const struct { const char *rule, *remedy, *page; } rules[] = {
-    { "DmaKept", "give it back before: once the device has done, and before the request is completed", "PutDmaAdapter callback" },
-    { "DmaNotFlushed", "call FlushAdapterBuffers once the device has done", "FlushAdapterBuffers callback" },
+/* Whether Driver Verifier tells the rules of version 3 isn't known. */
+static const struct { const char *rule, *remedy, *page; bool is_newer; } rules[] = {
+    { "DmaKept", "give it back before: once the device has done, and before the request is completed", "PutDmaAdapter callback", false },
+    { "DmaNotFlushed", "call FlushAdapterBuffers once the device has done", "FlushAdapterBuffers callback", false },
     { "DmaBeyond", "check lengths: the device gets the addresses and lengths of the list, or of MapTransfer",
-      "Using Scatter/Gather DMA" },
-    { "DmaAfterEnd", "put the list back, or flush, once the device has done", "PutScatterGatherList callback" },
-    { "DmaFreedTwice", "give it back once, with what it was got by", "PutScatterGatherList callback" },
-    { "DmaNotLocked", "lock its pages by MmProbeAndLockPages, or call MmBuildMdlForNonPagedPool", "Using MDLs" },
+      "Using Scatter/Gather DMA", false },
+    { "DmaAfterEnd", "put the list back, or flush, once the device has done", "PutScatterGatherList callback", false },
+    { "DmaFreedTwice", "give it back once, with what it was got by", "PutScatterGatherList callback", false },
+    { "DmaNotLocked", "lock its pages by MmProbeAndLockPages, or call MmBuildMdlForNonPagedPool", "Using MDLs", false },
     { "DmaDirection", "WriteToDevice is TRUE where the device reads memory, in each call of a transfer",
-      "GetScatterGatherList callback" },
-    { "DmaIrql", "raise the level by KeRaiseIrql around the call", "GetScatterGatherList callback" },
+      "GetScatterGatherList callback", false },
+    { "DmaVersion", "ask for DEVICE_DESCRIPTION_VERSION3, or call what version 2 has", "DMA_OPERATIONS structure", true },
+    { "DmaContext", "call InitializeDmaTransferContext before, and only once the transfer that had it is over",
+      "InitializeDmaTransferContext callback", true },
+    { "DmaIrql", "raise the level by KeRaiseIrql around the call", "GetScatterGatherList callback", false },
 };
 
 static const char *with_remedy(const char *rule, const char *text)
@@ -26,7 +30,8 @@ static const char *with_remedy(const char *rule, const char *text)
     static _Thread_local char whole[800];
     for (size_t i = 0; i < ARRAYSIZE(rules); i++)
         if (!strcmp(rules[i].rule, rule))
-            snprintf(whole, sizeof whole, "%s: Driver Verifier's 0xE6. Remedy: %s (WDK: %s)", text, rules[i].remedy, rules[i].page);
+            snprintf(whole, sizeof whole, "%s%s. Remedy: %s (WDK: %s)", text, rules[i].is_newer ? "" : ": Driver Verifier's 0xE6",
+                     rules[i].remedy, rules[i].page);
     return whole;
 }
 
@@ -81,6 +86,15 @@ Adapter *adapter_in(PDMA_ADAPTER given)
     return a && !a->is_put ? a : NULL;
 }
 
+Adapter *newer_adapter_in(PDMA_ADAPTER given)
+{
+    Adapter *a = adapter_in(given);
+    if (a && a->description.Version < DEVICE_DESCRIPTION_VERSION3)
+        dma_fault("DmaVersion", "the adapter was got at %s by a description of version %u, whose DmaOperations don't have it",
+                  place(a->made), a->description.Version);
+    return a;
+}
+
 static int bottom_of(const DEVICE_OBJECT *device)
 {
     int d = device->HostNumber;
@@ -89,15 +103,16 @@ static int bottom_of(const DEVICE_OBJECT *device)
     return d;
 }
 
+static DMA_OPERATIONS operations[2];
+
 PDMA_ADAPTER WdmIoGetDmaAdapter(PDEVICE_OBJECT Pdo, PDEVICE_DESCRIPTION Description, PULONG Registers, WDM_SITE at)
 {
     Call c;
     enter_host(&c, "IoGetDmaAdapter", at);
-    if (Description->Version >= DEVICE_DESCRIPTION_VERSION3)
-        note("not there", "DEVICE_DESCRIPTION_VERSION3: IoGetDmaAdapter gives NULL");
-    Adapter *a = memory_is_refused(c.name, at) || Description->Version >= DEVICE_DESCRIPTION_VERSION3 ? NULL : host_memory(sizeof *a);
+    const bool is_known = Description->Version <= DEVICE_DESCRIPTION_VERSION3;
+    Adapter *a = memory_is_refused(c.name, at) || !is_known ? NULL : host_memory(sizeof *a);
     if (a) {
-        a->given = (DMA_ADAPTER){ 1, sizeof a->given, &dma_operations };
+        a->given = (DMA_ADAPTER){ 1, sizeof a->given, &operations[Description->Version == DEVICE_DESCRIPTION_VERSION3] };
         a->bottom = bottom_of(Pdo);
         a->driver = calling_driver();
         a->description = *Description;
@@ -131,26 +146,30 @@ static void put_adapter(PDMA_ADAPTER Given)
 }
 
 /* The room behind it tells who writes beyond it. */
+PVOID new_common(Adapter *a, ULONG length, PPHYSICAL_ADDRESS logical, const char *call, WDM_SITE at)
+{
+    char *memory = !a || memory_is_refused(call, at) ? NULL : host_memory(length + 2 * PAGE_SIZE);
+    if (!memory)
+        return NULL;
+    char *buffer = (char *)ROUND_TO_PAGES((ULONG_PTR)memory);
+    Mapping *m = map_memory(a, memory, NULL, length, false);
+    memset(buffer + length, FENCED, FENCE);
+    m->memory = buffer;
+    m->is_both = true;
+    logical->QuadPart = (LONGLONG)m->logical;
+    give_out(memory, "the common buffer", call, at);
+    return buffer;
+}
+
 static PVOID allocate_common(PDMA_ADAPTER Given, ULONG Length, PPHYSICAL_ADDRESS Logical, BOOLEAN Cache)
 {
     Call c;
     const WDM_SITE at = dma_site();
     (void)Cache;
     enter_host(&c, "AllocateCommonBuffer", at);
-    Adapter *a = adapter_in(Given);
-    char *memory = !a || memory_is_refused(c.name, at) ? NULL : host_memory(Length + 2 * PAGE_SIZE);
-    Mapping *m = NULL;
-    if (memory) {
-        char *buffer = (char *)ROUND_TO_PAGES((ULONG_PTR)memory);
-        memset(buffer + Length, FENCED, FENCE);
-        m = map_memory(a, memory, NULL, Length, false);
-        m->memory = buffer;
-        m->is_both = true;
-        Logical->QuadPart = (LONGLONG)m->logical;
-        give_out(memory, "the common buffer", c.name, at);
-    }
+    PVOID buffer = new_common(adapter_in(Given), Length, Logical, c.name, at);
     leave_host();
-    return m ? m->memory : NULL;
+    return buffer;
 }
 
 static Mapping *common_at(const Adapter *a, PVOID buffer)
@@ -189,20 +208,19 @@ static void free_common(PDMA_ADAPTER Given, ULONG Length, PHYSICAL_ADDRESS Logic
 static ULONG alignment(PDMA_ADAPTER Given) { return (void)Given, 1; }
 static ULONG counter(PDMA_ADAPTER Given) { return (void)Given, 0; }
 
-DMA_OPERATIONS dma_operations = {
-    .Size = sizeof dma_operations,
-    .PutDmaAdapter = put_adapter,
-    .AllocateCommonBuffer = allocate_common,
-    .FreeCommonBuffer = free_common,
-    .AllocateAdapterChannel = allocate_channel,
-    .FlushAdapterBuffers = flush_buffers,
-    .FreeAdapterChannel = free_channel,
-    .FreeMapRegisters = free_registers,
-    .MapTransfer = map_transfer,
-    .GetDmaAlignment = alignment,
-    .ReadDmaCounter = counter,
-    .GetScatterGatherList = get_list,
-    .PutScatterGatherList = put_list,
-    .CalculateScatterGatherList = list_size,
-    .BuildScatterGatherList = build_list,
+#define BEFORE_3 \
+    .PutDmaAdapter = put_adapter, .AllocateCommonBuffer = allocate_common, .FreeCommonBuffer = free_common, \
+    .AllocateAdapterChannel = allocate_channel, .FlushAdapterBuffers = flush_buffers, .FreeAdapterChannel = free_channel, \
+    .FreeMapRegisters = free_registers, .MapTransfer = map_transfer, .GetDmaAlignment = alignment, .ReadDmaCounter = counter, \
+    .GetScatterGatherList = get_list, .PutScatterGatherList = put_list, .CalculateScatterGatherList = list_size, \
+    .BuildScatterGatherList = build_list
+/* Those before version 3, and with it. Version 3's stand in both, so that who calls them with an older adapter is told. */
+#define WITH_3 \
+    .GetDmaAdapterInfo = adapter_info, .GetDmaTransferInfo = transfer_info, .InitializeDmaTransferContext = initialize_transfer, \
+    .AllocateCommonBufferEx = allocate_common_below, .AllocateAdapterChannelEx = allocate_channel_ex, \
+    .CancelAdapterChannel = cancel_channel, .MapTransferEx = map_transfer_ex, .GetScatterGatherListEx = get_list_ex, \
+    .FlushAdapterBuffersEx = flush_buffers_ex, .FreeAdapterObject = free_adapter_object
+static DMA_OPERATIONS operations[2] = {
+    { .Size = offsetof(DMA_OPERATIONS, GetDmaAdapterInfo), BEFORE_3, WITH_3 },
+    { .Size = sizeof(DMA_OPERATIONS), BEFORE_3, WITH_3 },
 };

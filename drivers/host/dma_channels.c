@@ -4,6 +4,23 @@
  */
 #include "dma.h"
 
+NTSTATUS want_channel(Adapter *a, Wanted *w, PVOID *base)
+{
+    bool has_it = w && w->registers <= a->registers && (!base || fits_at_once(w));
+    if (has_it)
+        give_out(w, "the adapter channel", self.calls->name, w->at);
+    else if (w)
+        drop_wanted(w);
+    if (has_it && base)
+        *base = w;
+    leave_host();
+    if (has_it && !base)
+        serve_wanted(a);
+    else if (has_it && w->routine)
+        run_channel(w);
+    return has_it ? STATUS_SUCCESS : STATUS_INSUFFICIENT_RESOURCES;
+}
+
 NTSTATUS allocate_channel(PDMA_ADAPTER Given, PDEVICE_OBJECT Device, ULONG Registers, PDRIVER_CONTROL Routine, PVOID Context)
 {
     Call c;
@@ -11,16 +28,10 @@ NTSTATUS allocate_channel(PDMA_ADAPTER Given, PDEVICE_OBJECT Device, ULONG Regis
     enter_host(&c, "AllocateAdapterChannel", at);
     Adapter *a = adapter_in(Given);
     needs_dispatch_level();
-    const bool fits = a && Registers <= a->registers && !memory_is_refused(c.name, at);
-    Wanted *w = fits ? new_wanted(a, Device, (void *)Routine, Context, at) : NULL;
-    if (w) {
-        w->registers = Registers;
-        give_out(w, "the adapter channel", c.name, at);
-    }
-    leave_host();
+    Wanted *w = a && !memory_is_refused(c.name, at) ? new_wanted(a, Device, (void *)Routine, Context, at) : NULL;
     if (w)
-        serve_wanted(a);
-    return w ? STATUS_SUCCESS : STATUS_INSUFFICIENT_RESOURCES;
+        w->registers = Registers;
+    return want_channel(a, w, NULL);
 }
 
 /* Its transfers have to be flushed when its registers go. */
@@ -33,7 +44,7 @@ static void tell_not_flushed(const Wanted *w)
 }
 
 /* The routine's answer: what of the channel and the registers goes now. */
-static void take_action(Wanted *w, IO_ALLOCATION_ACTION action)
+void take_action(Wanted *w, IO_ALLOCATION_ACTION action)
 {
     if (action == KeepObject)
         return;
@@ -66,7 +77,7 @@ void run_channel(Wanted *w)
     leave_host();
 }
 
-static Wanted *registers_in(Adapter *a, PVOID base)
+Wanted *registers_in(Adapter *a, PVOID base)
 {
     Wanted *w = a ? a->wanted : NULL;
     while (w && (w->is_list || !w->is_out || w != base))
@@ -76,51 +87,70 @@ static Wanted *registers_in(Adapter *a, PVOID base)
     return w;
 }
 
+/* Maps so much of the buffer as lies in this MDL, each page by itself where the device has lists, or where `most` says that one
+   is wanted with so many elements. Returns how many bytes are mapped. */
+ULONG map_pieces(Wanted *w, PMDL mdl, char *va, ULONG length, bool to_device, PSCATTER_GATHER_LIST list, ULONG most)
+{
+    ULONG done = 0, n = 0, here = (ULONG)((char *)MmGetMdlVirtualAddress(mdl) + mdl->ByteCount - va);
+    length = length < here ? length : here;
+    while (done < length && n < most) {
+        const ULONG room = PAGE_SIZE - BYTE_OFFSET(va + done), left = length - done;
+        const ULONG now = w->adapter->description.ScatterGather && left > room ? room : left;
+        const ULONG pages = ADDRESS_AND_SIZE_TO_SPAN_PAGES(va + done, now);
+        if (w->used + pages > w->registers) {
+            dma_fault("DmaBeyond", "%u map registers more than the %u that were allocated at %s", w->used + pages - w->registers,
+                      w->registers, place(w->at));
+            break;
+        }
+        w->used += pages;
+        const Mapping *m = map_memory(w->adapter, w, va + done, now, to_device);
+        list->Elements[n++] = (SCATTER_GATHER_ELEMENT){ { .QuadPart = (LONGLONG)m->logical }, now, 0 };
+        done += now;
+    }
+    list->NumberOfElements = n;
+    return done;
+}
+
 PHYSICAL_ADDRESS map_transfer(PDMA_ADAPTER Given, PMDL Mdl, PVOID Base, PVOID Va, PULONG Length, BOOLEAN ToDevice)
 {
     Call c;
-    PHYSICAL_ADDRESS logical = { .QuadPart = 0 };
+    union { SCATTER_GATHER_LIST list; UCHAR room[sizeof(SCATTER_GATHER_LIST) + sizeof(SCATTER_GATHER_ELEMENT)]; } made = { .room = { 0 } };
     enter_host(&c, "MapTransfer", dma_site());
     Adapter *a = adapter_in(Given);
     Wanted *w = registers_in(a, Base);
-    ULONG length = w ? check_buffer(Mdl, Va, *Length) : 0;
-    const ULONG here = w ? (ULONG)((char *)MmGetMdlVirtualAddress(Mdl) + Mdl->ByteCount - (char *)Va) : 0;
-    const ULONG room = PAGE_SIZE - BYTE_OFFSET(Va);
-    length = length < here ? length : here;
-    if (w && a->description.ScatterGather && length > room)
-        length = room;
-    const ULONG pages = ADDRESS_AND_SIZE_TO_SPAN_PAGES(Va, length);
-    if (w && length && w->used + pages > w->registers)
-        dma_fault("DmaBeyond", "%u map registers more than the %u that were allocated at %s", w->used + pages - w->registers,
-                  w->registers, place(w->at));
-    else if (w && length) {
-        w->used += pages;
-        logical.QuadPart = (LONGLONG)map_memory(a, w, Va, length, ToDevice)->logical;
-        *Length = length;
-    }
+    const ULONG length = w ? check_buffer(Mdl, Va, *Length) : 0;
+    const ULONG mapped = length ? map_pieces(w, Mdl, Va, length, ToDevice, &made.list, 1) : 0;
+    if (mapped)
+        *Length = mapped;
     leave_host();
-    return logical;
+    return made.list.Elements[0].Address;
 }
 
-BOOLEAN flush_buffers(PDMA_ADAPTER Given, PMDL Mdl, PVOID Base, PVOID Va, ULONG Length, BOOLEAN ToDevice)
+void flush_mapped(Wanted *w, char *va, ULONG length, bool to_device)
 {
-    Call c;
     ULONG flushed = 0;
-    (void)Mdl;
-    enter_host(&c, "FlushAdapterBuffers", dma_site());
-    Wanted *w = registers_in(adapter_in(Given), Base);
-    for (Mapping *m = w ? mapping_of(w, NULL) : NULL; m; m = mapping_of(w, m)) {
-        if (m->original < (char *)Va || m->original >= (char *)Va + Length)
+    for (Mapping *m = mapping_of(w, NULL); m; m = mapping_of(w, m)) {
+        if (m->original < va || m->original >= va + length)
             continue;
-        if (m->to_device != ToDevice)
-            dma_fault("DmaDirection", "flushed with WriteToDevice %s, and mapped at %s with %s", ToDevice ? "TRUE" : "FALSE",
+        if (m->to_device != to_device)
+            dma_fault("DmaDirection", "flushed with WriteToDevice %s, and mapped at %s with %s", to_device ? "TRUE" : "FALSE",
                       place(m->at), m->to_device ? "TRUE" : "FALSE");
         flushed += m->length;
         w->used -= ADDRESS_AND_SIZE_TO_SPAN_PAGES(m->original, m->length);
         unmap_memory(m, true);
     }
-    if (w && flushed < Length)
-        dma_fault("DmaBeyond", "%u bytes are flushed, and %u of them are mapped", Length, flushed);
+    if (flushed < length)
+        dma_fault("DmaBeyond", "%u bytes are flushed, and %u of them are mapped", length, flushed);
+}
+
+BOOLEAN flush_buffers(PDMA_ADAPTER Given, PMDL Mdl, PVOID Base, PVOID Va, ULONG Length, BOOLEAN ToDevice)
+{
+    Call c;
+    (void)Mdl;
+    enter_host(&c, "FlushAdapterBuffers", dma_site());
+    Wanted *w = registers_in(adapter_in(Given), Base);
+    if (w)
+        flush_mapped(w, Va, Length, ToDevice);
     leave_host();
     return w != NULL;
 }
@@ -143,22 +173,26 @@ void free_registers(PDMA_ADAPTER Given, PVOID Base, ULONG Registers)
         serve_wanted(a);
 }
 
+/* What goes of the channel and its registers. */
+void free_the_channel(Adapter *a, IO_ALLOCATION_ACTION action)
+{
+    Wanted *w = a ? a->wanted : NULL;
+    while (w && !w->has_channel)
+        w = w->next;
+    if (a && !w)
+        dma_fault("DmaFreedTwice", "nobody has the adapter's channel");
+    if (w)
+        take_action(w, action);
+}
+
 void free_channel(PDMA_ADAPTER Given)
 {
     Call c;
     enter_host(&c, "FreeAdapterChannel", dma_site());
     Adapter *a = adapter_in(Given);
-    Wanted *w = a ? a->wanted : NULL;
     needs_dispatch_level();
-    while (w && !w->has_channel)
-        w = w->next;
-    if (a && !w)
-        dma_fault("DmaFreedTwice", "nobody has the adapter's channel");
-    if (w) {
-        tell_not_flushed(w);
-        drop_wanted(w);
-    }
+    free_the_channel(a, DeallocateObject);
     leave_host();
-    if (w)
+    if (a)
         serve_wanted(a);
 }

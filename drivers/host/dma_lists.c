@@ -56,7 +56,7 @@ void tell_wanted_kept(Adapter *a)
 
 /* Goes over the pieces of the buffer that lie in one page each. Returns how many there are; each is mapped where that is
    wanted. */
-static ULONG pieces(const Wanted *w, PSCATTER_GATHER_LIST list)
+ULONG pieces(const Wanted *w, PSCATTER_GATHER_LIST list)
 {
     ULONG n = 0, left = w->length;
     for (PMDL mdl = w->mdl; mdl && left; mdl = mdl->Next) {
@@ -75,43 +75,65 @@ static ULONG pieces(const Wanted *w, PSCATTER_GATHER_LIST list)
     return n;
 }
 
-static ULONG size_of(ULONG elements) { return (ULONG)(sizeof(SCATTER_GATHER_LIST) + elements * sizeof(SCATTER_GATHER_ELEMENT)); }
+ULONG size_of_list(ULONG elements) { return (ULONG)(sizeof(SCATTER_GATHER_LIST) + elements * sizeof(SCATTER_GATHER_ELEMENT)); }
 
-/* It has its map registers: the list is made, and its routine runs. Without G. */
-void run_list(Wanted *w)
+/* Under G: it has its map registers, and the list is made. */
+static void make_list(Wanted *w)
 {
-    Running r;
-    Call c;
-    enter_quietly(&c, "GetScatterGatherList", w->at);
-    w->list = w->room ? w->room : host_memory(size_of(w->registers));
+    w->list = w->room ? w->room : host_memory(size_of_list(w->registers));
     if (!w->list)
         give_up("out of memory");
     w->list->NumberOfElements = pieces(w, w->list);
+}
+
+/* The list is there, and its routine runs, which may put it back. Without G. */
+static void hand_out_list(const Wanted *w)
+{
+    Running r;
     PSCATTER_GATHER_LIST list = w->list;
     const PDRIVER_LIST_CONTROL routine = (PDRIVER_LIST_CONTROL)w->routine;
     PDEVICE_OBJECT device = w->device;
     PVOID context = w->context;
-    const int driver = w->driver;
-    leave_host();
-    begin_routine(&r, "a list's routine", (void *)routine, driver, device->HostNumber, DISPATCH_LEVEL);
-    routine(device, device->CurrentIrp, list, context); /* it may put the list back */
+    begin_routine(&r, "a list's routine", (void *)routine, w->driver, device->HostNumber, DISPATCH_LEVEL);
+    routine(device, device->CurrentIrp, list, context);
     end_routine(&r);
+}
+
+void run_list(Wanted *w)
+{
+    Call c;
+    enter_quietly(&c, "GetScatterGatherList", w->at);
+    make_list(w);
+    leave_host();
+    hand_out_list(w);
+}
+
+/* First come, first served. */
+static Wanted *first_that_waits(Adapter *a)
+{
+    Wanted *w = a->wanted;
+    while (w && w->is_out)
+        w = w->next;
+    return w;
+}
+
+bool fits_at_once(Wanted *w)
+{
+    Adapter *a = w->adapter;
+    if (w != first_that_waits(a) || w->registers > a->left || (!w->is_list && a->channel_is_busy))
+        return false;
+    w->is_out = true;
+    w->has_channel = !w->is_list;
+    a->channel_is_busy |= !w->is_list;
+    a->left -= w->registers;
+    return true;
 }
 
 /* The next one that fits, and counts as out from now on. */
 static Wanted *next_that_fits(Adapter *a)
 {
-    for (Wanted *w = a->wanted; w; w = w->next)
-        if (!w->is_out) {
-            if (w->registers > a->left || (!w->is_list && a->channel_is_busy))
-                return NULL; /* first come, first served */
-            w->is_out = true;
-            w->has_channel = !w->is_list;
-            a->channel_is_busy |= !w->is_list;
-            a->left -= w->registers;
-            return w;
-        }
-    return NULL;
+    Wanted *w = first_that_waits(a);
+    return w && fits_at_once(w) ? w : NULL;
 }
 
 void serve_wanted(Adapter *a)
@@ -129,36 +151,57 @@ void serve_wanted(Adapter *a)
     }
 }
 
+static Wanted *new_list(Adapter *a, const ListWanted *l, WDM_SITE at)
+{
+    const ULONG length = check_buffer(l->mdl, l->va, l->length);
+    Wanted *w = memory_is_refused(self.calls->name, at) ? NULL : new_wanted(a, l->device, (void *)l->routine, l->context, at);
+    if (!w)
+        return NULL;
+    w->mdl = l->mdl;
+    w->va = l->va;
+    w->length = length;
+    w->to_device = l->to_device;
+    w->is_list = true;
+    w->room = l->room;
+    w->transfer = l->transfer;
+    w->registers = pieces(w, NULL);
+    return w;
+}
+
+NTSTATUS want_list(Adapter *a, const ListWanted *l, WDM_SITE at)
+{
+    NTSTATUS status = STATUS_INSUFFICIENT_RESOURCES;
+    Wanted *w = a ? new_list(a, l, at) : NULL;
+    if (w && l->room && l->room_length < size_of_list(w->registers))
+        status = STATUS_BUFFER_TOO_SMALL;
+    else if (w && w->registers <= a->registers && (!l->now || fits_at_once(w)))
+        status = STATUS_SUCCESS;
+    if (NT_SUCCESS(status))
+        give_out(w, "the scatter-gather list", self.calls->name, at);
+    else if (w)
+        drop_wanted(w);
+    if (NT_SUCCESS(status) && l->now) {
+        make_list(w);
+        *l->now = w->list;
+    }
+    leave_host();
+    if (NT_SUCCESS(status) && !l->now)
+        serve_wanted(a);
+    else if (NT_SUCCESS(status) && l->routine)
+        hand_out_list(w);
+    return status;
+}
+
 NTSTATUS build_list(PDMA_ADAPTER Given, PDEVICE_OBJECT Device, PMDL Mdl, PVOID Va, ULONG Length, PDRIVER_LIST_CONTROL Routine,
                     PVOID Context, BOOLEAN ToDevice, PVOID Room, ULONG RoomLength)
 {
     Call c;
     const WDM_SITE at = dma_site();
-    NTSTATUS status = STATUS_INSUFFICIENT_RESOURCES;
+    const ListWanted l = { Device, Mdl, Va, Length, RoomLength, Routine, Context, Room, ToDevice, NULL, NULL };
     enter_host(&c, "GetScatterGatherList", at);
     Adapter *a = adapter_in(Given);
     needs_dispatch_level();
-    const ULONG length = a ? check_buffer(Mdl, Va, Length) : 0;
-    Wanted *w = !a || memory_is_refused(c.name, at) ? NULL : new_wanted(a, Device, (void *)Routine, Context, at);
-    if (w) {
-        w->mdl = Mdl;
-        w->va = Va;
-        w->length = length;
-        w->to_device = ToDevice;
-        w->is_list = true;
-        w->room = Room;
-        w->registers = pieces(w, NULL);
-        status = w->registers > a->registers ? STATUS_INSUFFICIENT_RESOURCES :
-            Room && RoomLength < size_of(w->registers) ? STATUS_BUFFER_TOO_SMALL : STATUS_SUCCESS;
-        if (NT_SUCCESS(status))
-            give_out(w, "the scatter-gather list", c.name, at);
-        else
-            drop_wanted(w);
-    }
-    leave_host();
-    if (NT_SUCCESS(status))
-        serve_wanted(a);
-    return status;
+    return want_list(a, &l, at);
 }
 
 NTSTATUS get_list(PDMA_ADAPTER Given, PDEVICE_OBJECT Device, PMDL Mdl, PVOID Va, ULONG Length, PDRIVER_LIST_CONTROL Routine,
@@ -172,7 +215,7 @@ NTSTATUS list_size(PDMA_ADAPTER Given, PMDL Mdl, PVOID Va, ULONG Length, PULONG 
     const Wanted w = { .mdl = Mdl, .va = Va, .length = Length };
     const ULONG n = Mdl ? pieces(&w, NULL) : ADDRESS_AND_SIZE_TO_SPAN_PAGES(Va, Length);
     (void)Given;
-    *Size = size_of(n);
+    *Size = size_of_list(n);
     if (Registers)
         *Registers = n;
     return STATUS_SUCCESS;

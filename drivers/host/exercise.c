@@ -22,14 +22,15 @@ static BOOLEAN is_on_children[64];
 static int rounds = 16;
 static BOOLEAN is_short;
 
-/* A control is on its way while others come, and itself again. */
+/* A control is on its way while itself comes again, and then others. */
 static void use_overlapped_controls(PDEVICE_OBJECT top)
 {
     Request first;
     for (int i = 0; i < n_controls; i++) {
         if (!start_request(&first, top, control(i, 16), PLAIN))
             continue;
-        for (int j = 0; j < n_controls; j++) {
+        for (int k = 0; k < n_controls; k++) {
+            const int j = (i + k) % n_controls;
             if (is_held(&first))
                 made(i == j ? SITUATION_CONTROL_ITSELF : SITUATION_CONTROL_MEETS);
             if (j != i || is_held(&first))
@@ -109,6 +110,8 @@ static Opened use(PDEVICE_OBJECT top, BOOLEAN finds)
         use_lengths(top);
     use_cancels(top);
     use_two_files(top, o);
+    if (finds && !is_short)
+        use_crowd(top);
     send_one(top, (What){ IRP_MJ_INTERNAL_DEVICE_CONTROL, 16, 0x7ff << 2 }, SITUATION_INTERNAL);
     for (int i = 0; i < 2; i++) /* a bottom that fails does so at once, and later */
         send_one(top, transfer(IRP_MJ_FLUSH_BUFFERS, 0), SITUATION_FLUSHED);
@@ -151,14 +154,6 @@ static void use_children(void)
         made(SITUATION_CHILDREN);
     else
         not_there(SITUATION_CHILDREN, "no driver reports children");
-}
-
-/* A paging file that the device doesn't take doesn't go either. */
-static void use_for_paging(PDEVICE_OBJECT top)
-{
-    if (NT_SUCCESS(notify_usage(top, TRUE)))
-        notify_usage(top, FALSE);
-    made(SITUATION_PAGING);
 }
 
 static void use_started(ULONG style, int threads)

@@ -18,6 +18,7 @@ void check_gone(const void *from, size_t size, const char *what)
     check_work_gone(from, size, what);
     check_given_gone(from, size, what);
     check_dma_gone(from, size, what);
+    check_pofx_gone(from, size, what);
     forget_locks(from, size, what);
     forget_remove_locks(from, size, what);
 }

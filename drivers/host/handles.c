@@ -23,7 +23,7 @@ bool transfer_by_handle(HANDLE handle, UCHAR major, PIO_STATUS_BLOCK iosb, PVOID
 {
     PFILE_OBJECT file = handle_object(handle, *IoFileObjectType);
     KEVENT done;
-    if (!file || file->Type != IO_TYPE_FILE)
+    if (!file || file->Type != IO_TYPE_FILE || !file->DeviceObject)
         return false;
     PDEVICE_OBJECT top = IoGetRelatedDeviceObject(file);
     WdmKeInitializeEvent(&done, NotificationEvent, FALSE);

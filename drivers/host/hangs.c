@@ -9,13 +9,13 @@ bool is_cancelled_and_held(const Packet *p)
     return lives(p) && p->owner >= 0 && p->cancel && !p->routine && !p->asking;
 }
 
-/* The last call of the dispatch by which its owner came to hold the packet, or no place. */
-static CallSite held_since(const Packet *p)
+/* The last call of the dispatch by which this device had the packet last, or no place. */
+CallSite last_call_of(const Packet *p, int device)
 {
     for (size_t i = n_history; i-- > 0;)
         for (int j = history[i]->p == p && history[i]->use == p->use ? history[i]->n : 0; j-- > 0;) {
             const Asked *a = &history[i]->asked[j];
-            if (a->kind == DISPATCH && a->device == p->owner && a->at.site.file)
+            if (a->kind == DISPATCH && a->device == device && a->at.site.file)
                 return a->at;
         }
     return (CallSite){ .call = NULL };
@@ -26,7 +26,7 @@ static CallSite holders_call(const Packet *p)
 {
     if (p->sites.cancel.file)
         return (CallSite){ p->sites.cancel, "IoSetCancelRoutine" };
-    const CallSite held = is_hosts_file(p->sites.sent.file) ? held_since(p) : (CallSite){ .call = NULL };
+    const CallSite held = is_hosts_file(p->sites.sent.file) ? last_call_of(p, p->owner) : (CallSite){ .call = NULL };
     return held.call ? held : (CallSite){ p->sites.sent, "IoCallDriver" };
 }
 
@@ -72,21 +72,45 @@ static bool is_let_go(const void *kept)
     return !lives(k->p) || k->p->use != k->use || (k->p->owner == ORIGINATOR && !k->p->asking);
 }
 
-/* The device is gone: a driver that keeps the request until IRP_MN_REMOVE_DEVICE is told, once nothing else goes on. */
-VOID WdmTellKept(PIRP Irp)
+/* Whether a driver of the stack has the request once nothing else goes on. Under G. */
+static bool is_kept(const Packet *p)
+{
+    const Kept kept = { p, p->use };
+    return lives(p) && !wait_for_host(is_let_go, &kept) && p->owner >= 0 && !is_bottom(devices[p->owner].raw) &&
+        !is_between(devices[p->owner].raw);
+}
+
+/* A driver has the request where it shouldn't: told where it came to hold it. */
+static void tell_keeper(PIRP irp, const char *rule, const char *how, const char *over)
 {
     Call c;
-    enter_host(&c, "IRP_MN_SURPRISE_REMOVAL", (WDM_SITE){ 0 });
-    const Packet *p = find(Irp);
-    const Kept kept = { p, p->use };
-    if (lives(p) && !wait_for_host(is_let_go, &kept) && p->owner >= 0 && !is_bottom(devices[p->owner].raw)) {
+    enter_host(&c, over, (WDM_SITE){ 0 });
+    const Packet *p = find(irp);
+    if (is_kept(p)) {
         const CallSite by = holders_call(p);
         c.name = by.call;
         c.at = by.site;
-        broken("KeptOverSurprise", p, "%s still holds it when IRP_MN_SURPRISE_REMOVAL is over. Sent at %s", who(p->owner),
-               place(p->sites.sent));
+        broken(rule, p, "%s still holds it %s %s. Sent at %s", who(p->owner), how, over, place(p->sites.sent));
     }
     leave_host();
+}
+
+/* The device is gone: a driver that keeps the request until IRP_MN_REMOVE_DEVICE is told. */
+VOID WdmTellKept(PIRP Irp) { tell_keeper(Irp, "KeptOverSurprise", "when", "IRP_MN_SURPRISE_REMOVAL is over"); }
+
+/* The device may be used again: a driver that goes on holding what came meanwhile, or comes now, is told. */
+VOID WdmTellHeld(PIRP Irp, const char *Over)
+{
+    tell_keeper(Irp, "NotRestored", "after", Over);
+}
+
+BOOLEAN WdmIsKept(PIRP Irp)
+{
+    Call c;
+    enter_host(&c, "what is held", (WDM_SITE){ 0 });
+    const BOOLEAN is = is_kept(find(Irp));
+    leave_host();
+    return is;
 }
 
 static bool is_in_flight(const Packet *p) { return lives(p) && (p->owner != ORIGINATOR || p->asking); }
@@ -208,7 +232,7 @@ void hang(Woken why, unsigned long began, WDM_SITE at)
     char text[400];
     Call c;
     enter_host(&c, "KeWaitForSingleObject", at);
-    if (why == OVERDUE && !stands_still_since(began)) {
+    if ((why == OVERDUE && !stands_still_since(began)) || tell_framework_waits()) {
         leave_host();
         return;
     }

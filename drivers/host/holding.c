@@ -4,7 +4,7 @@
 #include "requests.h"
 #include <pthread.h>
 
-enum { MOST_FOR_TIMERS = 300, MAX_CHILDREN = 16, MAX_ASKED = 256 + 64 };
+enum { MOST_FOR_TIMERS = 300, MAX_CHILDREN = 16, MAX_ASKED = 256 + 64, CROWD = 20 };
 static const char held_none[] = "each request was completed at once";
 static const char needs_file[] = "a driver keeps a context in files, so each request needs one";
 
@@ -99,25 +99,72 @@ static BOOLEAN is_any_held(Asked *a)
     return FALSE;
 }
 
-/* Two programs have it open, each with a read on its way. The second one closes its handle, and so its read ends; the other
-   one's is there until it is cancelled. */
+static BOOLEAN is_control_held(Asked *a)
+{
+    for (int i = 0; i < a->n; i++)
+        if (a->what[i].major == IRP_MJ_DEVICE_CONTROL && is_held(&a->request[i]))
+            return TRUE;
+    return FALSE;
+}
+
+/* A read and each control, of which some may end others: which of them are held. */
+static void find_holding(Asked *a, PDEVICE_OBJECT top)
+{
+    read_until_held(a, top);
+    for (int i = 0; i < n_controls; i++)
+        ask(a, top, control(i, 16));
+    for (int i = 0; i < a->n; i++)
+        end_request(&a->request[i], 0);
+}
+
+static void hold_again(Asked *a, PDEVICE_OBJECT top, const Asked *known)
+{
+    for (int i = 0; i < known->n; i++)
+        if (known->was_held[i])
+            ask(a, top, known->what[i]);
+}
+
+/* Two programs have it open, each with a read and each control on its way. The second one closes its handle, and so its own end;
+   the other one's are there until they are cancelled. */
 void use_two_files(PDEVICE_OBJECT top, Opened first)
 {
-    Asked mine = { .n = 0, .how = PLAIN }, other = { .n = 0, .how = PLAIN };
+    Asked known = { .n = 0, .how = PLAIN }, mine = { .n = 0, .how = PLAIN }, other = { .n = 0, .how = PLAIN };
     Opened second = open_it(top);
     made_if(SITUATION_TWO_FILES, first.file && second.file, "the second IRP_MJ_CREATE fails");
     if (!first.file || !second.file)
         return;
     WdmUseFile(first.file);
-    read_until_held(&mine, top);
+    find_holding(&known, top);
+    hold_again(&mine, top, &known);
     WdmUseFile(second.file);
-    read_until_held(&other, top);
+    hold_again(&other, top, &known);
     made_if(SITUATION_CLEANUP_HELD, is_any_held(&other), held_none);
     made_if(SITUATION_CLEANUP_OTHER, is_any_held(&mine), held_none);
+    made_if(SITUATION_CONTROL_CLEANUP, is_control_held(&other), "each control was completed at once");
     clean_up(&second);
     end_asked(&other, SHORTLY);
     close_it(second);
     end_asked(&mine, SHORTLY);
+}
+
+/* One request comes again and again while a driver holds it, until the driver refuses one. */
+static void crowd(PDEVICE_OBJECT top, What what)
+{
+    Asked asked = { .n = 0, .how = PLAIN };
+    ask(&asked, top, what);
+    const BOOLEAN holds = asked.n && is_held(&asked.request[0]);
+    for (int n = 1; holds && n < CROWD && asked.n == n && is_held(&asked.request[n - 1]); n++)
+        ask(&asked, top, what);
+    made_if(SITUATION_CROWD, holds, held_none);
+    end_asked(&asked, 0);
+}
+
+void use_crowd(PDEVICE_OBJECT top)
+{
+    crowd(top, transfer(IRP_MJ_READ, 16));
+    crowd(top, transfer(IRP_MJ_WRITE, 16));
+    for (int i = 0; i < n_controls; i++)
+        crowd(top, control(i, 16));
 }
 
 /* The system falls asleep and wakes while a read is under way: children sleep first, and wake last. */
@@ -153,33 +200,29 @@ static void let_timers_go_off(void)
     made_if(SITUATION_TIME_IN_D3, left <= MOST_FOR_TIMERS, "each timer that is armed then is due later");
 }
 
-/* A read comes while the device has no power. */
+/* Requests come while the device has no power. */
 void use_in_d3(PDEVICE_OBJECT top)
 {
-    Request read;
+    keep_answers(top);
     if (!NT_SUCCESS(set_power(top, IRP_MN_SET_POWER, PowerDeviceD3)))
         return;
-    const BOOLEAN reads = start_request(&read, top, transfer(IRP_MJ_READ, 16), PLAIN);
+    ask_meanwhile(top);
     made(SITUATION_READ_IN_D3);
     let_timers_go_off();
     set_power(top, IRP_MN_SET_POWER, PowerDeviceD0);
-    if (reads)
-        end_request(&read, PATIENT);
+    compare_answers(top, "IRP_MN_SET_POWER to PowerDeviceD0");
 }
 
-/* A device is asked whether it may stop or go, a read comes, and it goes on. */
+/* A device is asked whether it may stop or go, requests come, and it goes on. */
 static void ask_and_call_off(PDEVICE_OBJECT top, UCHAR query, UCHAR cancel, Situation asked, Situation meanwhile)
 {
-    Request read;
     keep_answers(top);
     const BOOLEAN agrees = NT_SUCCESS(WdmSend(top, IRP_MJ_PNP, query, 0));
-    const BOOLEAN reads = start_request(&read, top, transfer(IRP_MJ_READ, 16), PLAIN);
+    ask_meanwhile(top);
     made(asked);
     made_if(meanwhile, agrees, "a driver doesn't agree");
     WdmSend(top, IRP_MJ_PNP, cancel, 0);
-    if (reads)
-        end_request(&read, PATIENT);
-    compare_answers(top, cancel);
+    compare_answers(top, cancel == IRP_MN_CANCEL_STOP_DEVICE ? "IRP_MN_CANCEL_STOP_DEVICE" : "IRP_MN_CANCEL_REMOVE_DEVICE");
 }
 
 /* It stops and starts, with its children, while requests are on their way. */
@@ -193,6 +236,7 @@ void stop_in_use(PDEVICE_OBJECT top)
     WdmStopAndStart(bottom);
     made(SITUATION_STOPPED_AGAIN);
     end_asked(&asked, PATIENT);
+    compare_answers(top, "IRP_MN_START_DEVICE");
     ask_and_call_off(top, IRP_MN_QUERY_REMOVE_DEVICE, IRP_MN_CANCEL_REMOVE_DEVICE, SITUATION_REMOVE_ASKED,
                      SITUATION_READ_REMOVING);
 }

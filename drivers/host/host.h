@@ -252,6 +252,7 @@ typedef struct {
     struct _KTHREAD *thread;
     PFILE_OBJECT file; /* whose packets it builds (WdmUseFile), or NULL */
     int regions;       /* critical ones that it is in */
+    KAFFINITY affinity; /* the processors that it was told to run on, or 0 */
     const Wait *wait;  /* where it waits on a real thread, or NULL */
     pthread_t id;
     void *other_stack; /* for handlers */
@@ -345,7 +346,7 @@ bool wait_for_host(bool (*done)(const void *), const void *context);
 void finish_work(void);
 void run_work(Frame *f, int driver);
 void work_done(void);
-bool workers_are_idle(void), plug_and_play_is_idle(void), power_manager_is_idle(void);
+bool workers_are_idle(void), plug_and_play_is_idle(void), power_manager_is_idle(void), power_framework_is_idle(void);
 void send_at_passive_level(PDEVICE_OBJECT top, PIRP irp, WDM_SITE at);
 void after_work_items(void);
 bool has_work(int device);

@@ -122,6 +122,26 @@ HANDLE new_handle(POBJECT_TYPE type, PVOID object)
     return i < MAX_HANDLES ? (HANDLE)(ULONG_PTR)(4 * (i + 1)) : NULL;
 }
 
+/* The type of an object, by its handles; or NULL. */
+POBJECT_TYPE type_by_handles(const void *object)
+{
+    POBJECT_TYPE type = NULL;
+    hold_host("a handle is looked up", &handles, ACQUIRES);
+    for (int i = 0; i < MAX_HANDLES && !type; i++)
+        type = handles[i].object == object ? handles[i].type : NULL;
+    pthread_mutex_unlock(&host_lock);
+    return type;
+}
+
+/* Under G. */
+static bool has_handle(const void *object)
+{
+    for (int i = 0; i < MAX_HANDLES; i++)
+        if (handles[i].object == object)
+            return true;
+    return false;
+}
+
 PVOID handle_object(HANDLE handle, POBJECT_TYPE type)
 {
     const ULONG_PTR i = (ULONG_PTR)handle / 4 - 1;
@@ -141,9 +161,14 @@ NTSTATUS WdmZwClose(HANDLE Handle, WDM_SITE at)
     const bool is_open = i < MAX_HANDLES && handles[i].object;
     PVOID file = is_open && handles[i].type == files ? handles[i].object : NULL;
     take_handle_back(Handle);
-    if (is_open)
+    if (is_open) {
+        const PVOID object = handles[i].object;
         handles[i].object = NULL;
-    else
+        if (has_handle(object))
+            file = NULL; /* closed with the last one */
+        else
+            drop_directory(object);
+    } else
         fault("NotOpen", NULL, "a handle is closed that isn't open");
     leave_host();
     if (file)
@@ -160,13 +185,20 @@ NTSTATUS WdmObReferenceObjectByHandle(HANDLE Handle, POBJECT_TYPE Type, PVOID *O
     return STATUS_SUCCESS;
 }
 
-NTSTATUS ZwMakeTemporaryObject(HANDLE Handle) { return handle_object(Handle, NULL) ? STATUS_SUCCESS : STATUS_INVALID_HANDLE; }
-
-PEPROCESS PsGetCurrentProcess(VOID)
+NTSTATUS WdmZwDuplicateObject(HANDLE Handle, PHANDLE Other, BOOLEAN Closes, WDM_SITE at)
 {
-    static int process;
-    return (PEPROCESS)&process;
+    PVOID object = handle_object(Handle, NULL);
+    if (!object)
+        return STATUS_INVALID_HANDLE;
+    *Other = new_handle(handles[(ULONG_PTR)Handle / 4 - 1].type, object);
+    if (*Other && Closes)
+        WdmZwClose(Handle, at);
+    return *Other ? STATUS_SUCCESS : STATUS_INSUFFICIENT_RESOURCES;
 }
+
+static KEVENT process = { { .Type = 3 } }; /* as Windows numbers it; nobody sees its end */
+PEPROCESS PsInitialSystemProcess = (PEPROCESS)&process;
+PEPROCESS PsGetCurrentProcess(VOID) { return PsInitialSystemProcess; }
 
 HANDLE PsGetThreadId(PETHREAD Thread) { return (HANDLE)Thread; }
 HANDLE PsGetCurrentThreadId(VOID) { return (HANDLE)KeGetCurrentThread(); }
@@ -181,6 +213,15 @@ static PKEVENT event_named(PUNICODE_STRING name)
     for (int i = 0; i < n_named; i++)
         if (RtlEqualUnicodeString(&named[i].name, name, TRUE))
             return named[i].event;
+    return NULL;
+}
+
+/* The name of an event, or NULL. Under G. */
+PCUNICODE_STRING name_of_event(const void *object)
+{
+    for (int i = 0; i < n_named; i++)
+        if (named[i].event == object)
+            return &named[i].name;
     return NULL;
 }
 
@@ -267,11 +308,4 @@ NTSTATUS WdmZwWaitForSingleObject(HANDLE Handle, PLARGE_INTEGER Timeout, WDM_SIT
 {
     PVOID object = handle_object(Handle, NULL);
     return object ? WdmKeWaitForSingleObject(object, Timeout, at) : STATUS_INVALID_HANDLE;
-}
-
-NTSTATUS ZwCreateDirectoryObject(PHANDLE Directory, ACCESS_MASK Access, POBJECT_ATTRIBUTES Attributes)
-{
-    (void)Access, (void)Attributes;
-    *Directory = new_handle(NULL, &event_type);
-    return *Directory ? STATUS_SUCCESS : STATUS_INSUFFICIENT_RESOURCES;
 }

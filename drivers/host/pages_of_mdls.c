@@ -51,9 +51,12 @@ VOID WdmMmFreePages(PMDL Mdl, WDM_SITE at)
 }
 
 /* The handle has no type, so that its close does nothing else. */
-NTSTATUS WdmObOpenByPointer(PVOID Object, PHANDLE Handle, WDM_SITE at)
+NTSTATUS WdmObOpenByPointer(PVOID Object, POBJECT_TYPE Type, PHANDLE Handle, WDM_SITE at)
 {
     Call c;
+    const POBJECT_TYPE is = ObGetObjectType(Object);
+    if (Type && is && is != Type)
+        return STATUS_OBJECT_TYPE_MISMATCH;
     *Handle = WdmIsRefused("ObOpenObjectByPointer", at) ? NULL : new_handle(NULL, Object);
     if (!*Handle)
         return STATUS_INSUFFICIENT_RESOURCES;

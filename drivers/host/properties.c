@@ -1,17 +1,14 @@
-/* properties.c: names of devices, links, interfaces, properties, notifications: what Plug and Play keeps of devices. */
+/* properties.c: names of devices, links, interfaces, notifications: what Plug and Play keeps of devices. */
 #include "host.h"
 
 enum { MAX_NAMES = 256 };
 typedef struct { UNICODE_STRING name, target; PDEVICE_OBJECT device; const GUID *class; bool is_enabled, leads_nowhere;
                  WDM_SITE made; int driver; } Name; /* made: of an interface, where it was enabled */
-typedef struct { PDEVICE_OBJECT device; DEVPROPKEY key; DEVICE_REGISTRY_PROPERTY property; DEVPROPTYPE type; ULONG size;
-                 PVOID data; bool is_keyed; } Property;
 typedef struct { IO_NOTIFICATION_EVENT_CATEGORY category; GUID class; PFILE_OBJECT file;
                  PDRIVER_NOTIFICATION_CALLBACK_ROUTINE routine; PVOID context; int driver; WDM_SITE made; } Registration;
 static Name names[MAX_NAMES];
-static Property properties[MAX_NAMES];
 static Registration registrations[64];
-static int n_names, n_properties;
+static int n_names;
 
 /* The place of a name, or -1. Under G. */
 static int find_name(PCUNICODE_STRING name)
@@ -68,6 +65,15 @@ NTSTATUS WdmIoCreateNamedDevice(PDRIVER_OBJECT Driver, ULONG Extension, PUNICODE
     if (NT_SUCCESS(status))
         (*Device)->Flags |= DO_DEVICE_HAS_NAME;
     return status;
+}
+
+/* The name of a device, or NULL. Under G. */
+PCUNICODE_STRING name_of_device(const void *device)
+{
+    for (int i = 0; i < n_names; i++)
+        if (names[i].device == device && names[i].name.Buffer && !names[i].class)
+            return &names[i].name;
+    return NULL;
 }
 
 /* The device is gone: so is its name. Under G. */
@@ -324,80 +330,4 @@ NTSTATUS IoReportTargetDeviceChangeAsynchronous(PDEVICE_OBJECT Device, PVOID Not
     if (Callback)
         Callback(Context);
     return STATUS_PENDING;
-}
-
-/* Properties: those of the registry, and those with keys of their own. */
-static Property *find_property(PDEVICE_OBJECT device, DEVICE_REGISTRY_PROPERTY property, const DEVPROPKEY *key)
-{
-    for (int i = 0; i < n_properties; i++) {
-        Property *p = &properties[i];
-        if (p->device == device && (key ? p->is_keyed && !memcmp(&p->key, key, sizeof *key)
-                                        : !p->is_keyed && p->property == property))
-            return p;
-    }
-    return NULL;
-}
-
-static NTSTATUS set_property(Property wanted, const void *data)
-{
-    NTSTATUS status = STATUS_INSUFFICIENT_RESOURCES;
-    hold_host("IoSetDevicePropertyData", &properties, WRITES);
-    Property *p = find_property(wanted.device, wanted.property, wanted.is_keyed ? &wanted.key : NULL);
-    if (!p && n_properties < MAX_NAMES)
-        p = &properties[n_properties++];
-    PVOID copy = p ? malloc(wanted.size ? wanted.size : 1) : NULL;
-    if (copy) {
-        *p = wanted;
-        p->data = copy;
-        memcpy(copy, data, wanted.size);
-        status = STATUS_SUCCESS;
-    }
-    pthread_mutex_unlock(&host_lock);
-    return status;
-}
-
-VOID WdmSetDeviceProperty(PDEVICE_OBJECT Device, DEVICE_REGISTRY_PROPERTY Which, const VOID *Data, ULONG Size)
-{
-    set_property((Property){ .device = Device, .property = Which, .size = Size }, Data);
-}
-
-NTSTATUS IoSetDevicePropertyData(PDEVICE_OBJECT Device, const DEVPROPKEY *Key, LCID Locale, ULONG Flags,
-                                 DEVPROPTYPE Type, ULONG Size, PVOID Data)
-{
-    (void)Locale, (void)Flags;
-    return set_property((Property){ .device = Device, .key = *Key, .type = Type, .size = Size, .is_keyed = true }, Data);
-}
-
-static NTSTATUS read_property(const Property *p, ULONG room, PVOID to, PULONG needed)
-{
-    if (needed)
-        *needed = p ? p->size : 0;
-    if (!p)
-        return STATUS_OBJECT_NAME_NOT_FOUND;
-    if (room < p->size)
-        return STATUS_BUFFER_TOO_SMALL;
-    memcpy(to, p->data, p->size);
-    return STATUS_SUCCESS;
-}
-
-NTSTATUS IoGetDeviceProperty(PDEVICE_OBJECT Device, DEVICE_REGISTRY_PROPERTY Property, ULONG Length, PVOID Buffer,
-                             PULONG Needed)
-{
-    hold_host("IoGetDeviceProperty", &properties, READS);
-    const NTSTATUS status = read_property(find_property(Device, Property, NULL), Length, Buffer, Needed);
-    pthread_mutex_unlock(&host_lock);
-    return status;
-}
-
-NTSTATUS IoGetDevicePropertyData(PDEVICE_OBJECT Device, const DEVPROPKEY *Key, LCID Locale, ULONG Flags, ULONG Size,
-                                 PVOID Data, PULONG Needed, PDEVPROPTYPE Type)
-{
-    (void)Locale, (void)Flags;
-    hold_host("IoGetDevicePropertyData", &properties, READS);
-    const Property *p = find_property(Device, 0, Key);
-    if (p && Type)
-        *Type = p->type;
-    const NTSTATUS status = read_property(p, Size, Data, Needed);
-    pthread_mutex_unlock(&host_lock);
-    return status;
 }

@@ -179,8 +179,7 @@ VOID WdmIoInitializeRemoveLock(PIO_REMOVE_LOCK Lock, WDM_SITE at)
         note("a remove lock", "it lies in no device's extension: the host checks it, and the transcript doesn't have it");
     locks[number].raw = Lock;
     locks[number].made = at;
-    Lock->HostNumber = number;
-    Lock->HostBound = TRUE;
+    Lock->Common = (IO_REMOVE_LOCK_COMMON_BLOCK){ .IoCount = 1, .HostNumber = number, .HostBound = TRUE };
     leave_host();
 }
 
@@ -200,11 +199,11 @@ void forget_remove_locks(const void *from, size_t size, const char *why)
 
 static int lock_of(PIO_REMOVE_LOCK lock)
 {
-    if (lock->HostBound != TRUE || lock->HostNumber < 0 || lock->HostNumber >= MAX_LOCKS)
+    if (lock->Common.HostBound != TRUE || lock->Common.HostNumber < 0 || lock->Common.HostNumber >= MAX_LOCKS)
         give_up("a remove lock is used before IoInitializeRemoveLock");
     check_used(lock, "remove lock");
-    touch(&locks[lock->HostNumber], strcmp(self.calls->name, "IoReleaseRemoveLockAndWait") ? MEETS : SYNCS);
-    return lock->HostNumber;
+    touch(&locks[lock->Common.HostNumber], strcmp(self.calls->name, "IoReleaseRemoveLockAndWait") ? MEETS : SYNCS);
+    return lock->Common.HostNumber;
 }
 
 NTSTATUS WdmIoAcquireRemoveLock(PIO_REMOVE_LOCK RemoveLock, PVOID Tag, WDM_SITE at)
@@ -216,6 +215,7 @@ NTSTATUS WdmIoAcquireRemoveLock(PIO_REMOVE_LOCK RemoveLock, PVOID Tag, WDM_SITE 
     if (is_devices(d))
         devices[d].bound = true; /* one that nobody ever acquired needs no drain */
     const bool removed = k->removed;
+    RemoveLock->Common.IoCount += !removed;
     const Frame *f = self.frames;
     if (!removed && k->n == MAX_HELD)
         reach_limit("a remove lock that is held 1,024 times: let its test have fewer requests at once");
@@ -258,6 +258,7 @@ static bool give_back(int d, PVOID tag, const char *act)
         write_word("hand", d, tag, "\"ok\"", k->held[found].seat, self.seat);
     write_word(act, d, tag, "\"ok\"", self.seat, -1);
     k->held[found] = k->held[--k->n];
+    k->raw->Common.IoCount--;
     tell_waiters(&host_settled);
     return true;
 }
@@ -281,8 +282,11 @@ VOID WdmIoReleaseRemoveLockAndWait(PIO_REMOVE_LOCK RemoveLock, PVOID Tag, WDM_SI
     if (k->removed) {
         write_word("begin_remove", d, Tag, "\"already_removing\"", self.seat, -1);
         fault("AlreadyRemoving", NULL, "%s is drained twice", lock_name(d));
-    } else if (give_back(d, Tag, "begin_remove"))
+    } else if (give_back(d, Tag, "begin_remove")) {
         k->removed = true;
+        RemoveLock->Common.Removed = TRUE;
+        RemoveLock->Common.IoCount--;
+    }
     if (k->n)
         wait_for_host(is_drained, k);
     touch(k, SYNCS);

@@ -125,20 +125,6 @@ NTSTATUS set_system_power(PDEVICE_OBJECT top, UCHAR minor, SYSTEM_POWER_STATE st
     return send_power(top, minor, SystemPowerState, (POWER_STATE){ .SystemState = state });
 }
 
-NTSTATUS notify_usage(PDEVICE_OBJECT top, BOOLEAN is_used)
-{
-    IO_STATUS_BLOCK iosb;
-    KEVENT ended;
-    KeInitializeEvent(&ended, NotificationEvent, FALSE);
-    PIRP irp = WdmBuildIrp(top, IRP_MJ_PNP, IRP_MN_DEVICE_USAGE_NOTIFICATION, 0, &iosb, &ended);
-    PIO_STACK_LOCATION next = IoGetNextIrpStackLocation(irp);
-    next->Parameters.UsageNotification.InPath = is_used;
-    next->Parameters.UsageNotification.Type = DeviceUsageTypePaging;
-    IoCallDriver(top, irp);
-    KeWaitForSingleObject(&ended, Executive, KernelMode, FALSE, NULL);
-    return iosb.Status;
-}
-
 static void add_control(ULONG code)
 {
     for (int i = 0; i < n_controls; i++)
@@ -178,13 +164,14 @@ static BOOLEAN is_refused(NTSTATUS status)
 static void tell_controls(PDEVICE_OBJECT top)
 {
     static const Situation needing[] = { SITUATION_CONTROLS, SITUATION_CONTROL_MEETS, SITUATION_CONTROL_ITSELF,
-                                         SITUATION_CONTROL_CANCELLED };
+                                         SITUATION_CONTROL_CANCELLED, SITUATION_CONTROL_CLEANUP };
     const BOOLEAN knows = top->DriverObject->MajorFunction[IRP_MJ_DEVICE_CONTROL] != NULL;
     for (size_t i = 0; i < ARRAYSIZE(needing); i++)
-        if (!knows || (!n_controls && !getenv("WDM_CANDIDATES")))
+        if (!knows || (!n_controls && !getenv("WDM_CANDIDATES") && !getenv("WDM_READS_CODES")))
             not_there(needing[i], knows ? "the source names no control code" : "no driver takes IRP_MJ_DEVICE_CONTROL");
         else
-            not_made(needing[i], n_controls ? "each control was completed at once" : "no driver took a control code");
+            not_made(needing[i], n_controls ? "each control was completed at once" :
+                     "no driver took a control code: give --controls");
     if (n_controls)
         made(SITUATION_CONTROLS);
 }

@@ -34,8 +34,8 @@ NTSTATUS make_request(PDEVICE_OBJECT top, What what, How how, int milliseconds);
 NTSTATUS set_power(PDEVICE_OBJECT top, UCHAR minor, DEVICE_POWER_STATE state);
 NTSTATUS set_system_power(PDEVICE_OBJECT top, UCHAR minor, SYSTEM_POWER_STATE state);
 
-/* A paging file comes onto the device, or goes from it: IRP_MN_DEVICE_USAGE_NOTIFICATION. */
-NTSTATUS notify_usage(PDEVICE_OBJECT top, BOOLEAN is_used);
+/* usages.c: a paging file comes and goes, and is refused below: IRP_MN_DEVICE_USAGE_NOTIFICATION. */
+void use_for_paging(PDEVICE_OBJECT top);
 
 /* own_packets.c: whether drivers have sent packets of their own, and one is on its way. between.c: it stays so for a while. */
 typedef enum { NO_OWN, OWN_ENDED, OWN_IN_FLIGHT } OwnPackets;
@@ -50,8 +50,11 @@ unsigned long timers_rung_asleep(void);
 /* Whether each device from this one down to the bottom one has a remove lock that was acquired. */
 BOOLEAN WdmHaveRemoveLocks(PDEVICE_OBJECT Top, PDEVICE_OBJECT Bottom);
 
-/* Tells a driver that still holds it, where IRP_MN_SURPRISE_REMOVAL is over. */
+/* hangs.c: whether a driver holds it once nothing else goes on; tells that driver, where IRP_MN_SURPRISE_REMOVAL is over, or what
+   kept the device from use. */
+BOOLEAN WdmIsKept(PIRP Irp);
 VOID WdmTellKept(PIRP Irp);
+VOID WdmTellHeld(PIRP Irp, const char *Over);
 
 /* What is asked for, and what a control of the i-th code asks for. */
 What transfer(UCHAR major, ULONG length);
@@ -63,15 +66,18 @@ Opened open_it(PDEVICE_OBJECT top);
 void close_it(Opened o);
 void let_bottom_finish(void);
 void use_two_files(PDEVICE_OBJECT top, Opened first);
+void use_crowd(PDEVICE_OBJECT top);
 void sleep_and_wake(PDEVICE_OBJECT top);
 void use_in_d3(PDEVICE_OBJECT top);
 void stop_in_use(PDEVICE_OBJECT top);
 void remove_by_surprise(PDEVICE_OBJECT top, Opened o);
 void remove_in_order(PDEVICE_OBJECT top, Opened o, BOOLEAN is_read);
 
-/* restored.c: before a device is asked to stop or to go, and after the IRP_MN_CANCEL_ minor that lets it stay. */
+/* restored.c: before a device loses its power, or is asked to stop or to go; meanwhile; and after that is over, by the request
+   whose name is given. */
 void keep_answers(PDEVICE_OBJECT top);
-void compare_answers(PDEVICE_OBJECT top, UCHAR minor);
+void ask_meanwhile(PDEVICE_OBJECT top);
+void compare_answers(PDEVICE_OBJECT top, const char *over);
 
 /* The control codes that are sent: those of WDM_CONTROLS, and from `find_controls` on those of WDM_CANDIDATES, which
    stand in the drivers' source, and usual ones: all that aren't answered as a code is that nobody knows. */

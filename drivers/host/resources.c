@@ -21,54 +21,76 @@ VOID KeLeaveCriticalRegion(VOID)
 
 BOOLEAN KeAreApcsDisabled(VOID) { return self.regions > 0; }
 
-NTSTATUS ExInitializeResourceLite(PERESOURCE Resource)
+enum { MAX_READERS = 32 };
+
+/* Its readers stay when it is deleted: one that is used then is told of where its memory is gone. */
+static NTSTATUS initialize(const char *name, PERESOURCE r, HOST_READER *readers)
 {
-    memset(Resource, 0, sizeof *Resource);
-    WdmKeInitializeEvent(&Resource->Changed, NotificationEvent, FALSE);
+    Call c;
+    enter_host(&c, name, nowhere);
+    HOST_READER *all = readers ? readers : host_memory(MAX_READERS * sizeof *all);
+    if (!all)
+        give_up("out of memory");
+    memset(all, 0, MAX_READERS * sizeof *all);
+    memset(r, 0, sizeof *r);
+    r->HostReaders = all;
+    leave_host();
+    WdmKeInitializeEvent(&r->HostChanged, NotificationEvent, FALSE);
     return STATUS_SUCCESS;
 }
 
-NTSTATUS ExReinitializeResourceLite(PERESOURCE Resource) { return ExInitializeResourceLite(Resource); }
+NTSTATUS ExInitializeResourceLite(PERESOURCE Resource) { return initialize("ExInitializeResourceLite", Resource, NULL); }
+
+NTSTATUS ExReinitializeResourceLite(PERESOURCE Resource)
+{
+    return initialize("ExReinitializeResourceLite", Resource, Resource->HostReaders);
+}
 
 /* This thread's place among the readers: its own, or a free one. -1 where there is none. */
 static int reader(const ERESOURCE *r, bool may_be_new)
 {
     int room = -1;
-    for (int i = 0; i < 32; i++) {
-        if (r->Readers[i].Count && r->Readers[i].Thread == me())
+    if (!r->HostReaders)
+        give_up("a resource is used before ExInitializeResourceLite");
+    for (int i = 0; i < MAX_READERS; i++) {
+        if (r->HostReaders[i].Count && r->HostReaders[i].Thread == me())
             return i;
-        if (!r->Readers[i].Count && room < 0)
+        if (!r->HostReaders[i].Count && room < 0)
             room = i;
     }
     return may_be_new ? room : -1;
 }
 
-/* How a thread wants it. One that starves doesn't mind those that wait to have it alone. */
-typedef enum { SHARED, ALONE, STARVING } How;
+static void count_active(PERESOURCE r) { r->ActiveCount = (SHORT)(r->HostExclusive ? 1 : r->HostShared); }
+
+/* How a thread wants it. One that starves doesn't mind those that wait to have it alone; one that yields lets them go before,
+   even where it shares the resource already. */
+typedef enum { SHARED, ALONE, STARVING, YIELDING } How;
 
 /* Under G: takes the resource where that is possible now. */
 static BOOLEAN try_to_take(PERESOURCE r, How how)
 {
     touch(r, SYNCS);
-    const bool is_mine = r->Exclusive && r->Owner == me(), exclusive = how == ALONE;
+    const bool is_mine = r->HostExclusive && r->HostOwner == me(), exclusive = how == ALONE;
     const int mine = reader(r, true);
     if (is_mine) {
-        r->Exclusive++;
+        r->HostExclusive++;
         return TRUE;
     }
-    if (exclusive ? r->Exclusive || r->Shared : r->Exclusive || mine < 0)
+    if (exclusive ? r->HostExclusive || r->HostShared : r->HostExclusive || mine < 0)
         return FALSE;
-    if (how == SHARED && r->Shared && r->Waiting && !r->Readers[mine].Count)
+    if (r->HostShared && r->NumberOfExclusiveWaiters && (how == YIELDING || (how == SHARED && !r->HostReaders[mine].Count)))
         return FALSE; /* who waits to have it alone goes before one more reader. A free resource is never refused, so
                          whoever clears Changed is told by the next release. */
     if (exclusive) {
-        r->Exclusive = 1;
-        r->Owner = me();
+        r->HostExclusive = 1;
+        r->HostOwner = me();
     } else {
-        r->Shared++;
-        r->Readers[mine].Thread = me();
-        r->Readers[mine].Count++;
+        r->HostShared++;
+        r->HostReaders[mine].Thread = me();
+        r->HostReaders[mine].Count++;
     }
+    count_active(r);
     return TRUE;
 }
 
@@ -76,20 +98,21 @@ static BOOLEAN acquire(const char *name, PERESOURCE Resource, How how, BOOLEAN W
 {
     Call c;
     bool waits = false;
+    ULONG *waiting = how == ALONE ? &Resource->NumberOfExclusiveWaiters : &Resource->NumberOfSharedWaiters;
     for (;;) {
         enter_host(&c, name, at);
         if (how == ALONE && Wait && reader(Resource, false) >= 0)
             fault("Resource", NULL, "acquired to have it alone by a thread that shares it: it would wait for itself");
-        Resource->Waiting -= waits;
+        *waiting -= waits;
         const BOOLEAN taken = try_to_take(Resource, how);
-        waits = !taken && Wait && how == ALONE;
-        Resource->Waiting += waits;
+        waits = !taken && Wait;
+        *waiting += waits;
         if (!taken)
-            clear_event(&Resource->Changed);
+            clear_event(&Resource->HostChanged);
         leave_host();
         if (taken || !Wait)
             return taken;
-        WdmKeWaitForSingleObject(&Resource->Changed, NULL, at);
+        WdmKeWaitForSingleObject(&Resource->HostChanged, NULL, at);
     }
 }
 
@@ -104,6 +127,29 @@ BOOLEAN WdmExAcquireStarving(PERESOURCE Resource, BOOLEAN Wait, WDM_SITE at)
     return acquire("ExAcquireSharedStarveExclusive", Resource, STARVING, Wait, at);
 }
 
+BOOLEAN WdmExAcquireYielding(PERESOURCE Resource, BOOLEAN Wait, WDM_SITE at)
+{
+    return acquire("ExAcquireSharedWaitForExclusive", Resource, YIELDING, Wait, at);
+}
+
+static ULONG waiters(const char *name, PERESOURCE r, const ULONG *waiting)
+{
+    hold_host(name, r, READS);
+    const ULONG count = *waiting;
+    pthread_mutex_unlock(&host_lock);
+    return count;
+}
+
+ULONG ExGetExclusiveWaiterCount(PERESOURCE Resource)
+{
+    return waiters("ExGetExclusiveWaiterCount", Resource, &Resource->NumberOfExclusiveWaiters);
+}
+
+ULONG ExGetSharedWaiterCount(PERESOURCE Resource)
+{
+    return waiters("ExGetSharedWaiterCount", Resource, &Resource->NumberOfSharedWaiters);
+}
+
 VOID WdmExReleaseResource(PERESOURCE Resource, WDM_SITE at)
 {
     Call c;
@@ -111,14 +157,15 @@ VOID WdmExReleaseResource(PERESOURCE Resource, WDM_SITE at)
     hands_over();
     touch(Resource, SYNCS);
     const int mine = reader(Resource, false);
-    if (Resource->Exclusive && Resource->Owner == me())
-        Resource->Exclusive--;
+    if (Resource->HostExclusive && Resource->HostOwner == me())
+        Resource->HostExclusive--;
     else if (mine >= 0) {
-        Resource->Readers[mine].Count--;
-        Resource->Shared--;
+        Resource->HostReaders[mine].Count--;
+        Resource->HostShared--;
     } else
         fault("Resource", NULL, "released by a thread that doesn't have it");
-    set_event(&Resource->Changed);
+    count_active(Resource);
+    set_event(&Resource->HostChanged);
     leave_host();
 }
 
@@ -127,7 +174,7 @@ NTSTATUS WdmExDeleteResource(PERESOURCE Resource, WDM_SITE at)
     Call c;
     enter_host(&c, "ExDeleteResourceLite", at);
     touch(Resource, WRITES);
-    if (Resource->Exclusive || Resource->Shared)
+    if (Resource->HostExclusive || Resource->HostShared)
         fault("Resource", NULL, "deleted while a thread has it");
     leave_host();
     return STATUS_SUCCESS;
@@ -135,28 +182,29 @@ NTSTATUS WdmExDeleteResource(PERESOURCE Resource, WDM_SITE at)
 
 BOOLEAN ExIsResourceAcquiredExclusiveLite(PERESOURCE Resource)
 {
-    return Resource->Exclusive && Resource->Owner == me();
+    return Resource->HostExclusive && Resource->HostOwner == me();
 }
 
 ULONG ExIsResourceAcquiredSharedLite(PERESOURCE Resource)
 {
     hold_host("ExIsResourceAcquiredSharedLite", Resource, READS);
     const int mine = reader(Resource, false);
-    const ULONG count = mine >= 0 ? (ULONG)Resource->Readers[mine].Count : 0;
+    const ULONG count = mine >= 0 ? (ULONG)Resource->HostReaders[mine].Count : 0;
     pthread_mutex_unlock(&host_lock);
-    return ExIsResourceAcquiredExclusiveLite(Resource) ? (ULONG)Resource->Exclusive : count;
+    return ExIsResourceAcquiredExclusiveLite(Resource) ? (ULONG)Resource->HostExclusive : count;
 }
 
 VOID ExConvertExclusiveToSharedLite(PERESOURCE Resource)
 {
     hold_host("ExConvertExclusiveToSharedLite", Resource, SYNCS);
-    const LONG times = Resource->Exclusive;
+    const LONG times = Resource->HostExclusive;
     const int mine = reader(Resource, true);
-    Resource->Exclusive = 0;
-    Resource->Shared += times;
-    Resource->Readers[mine].Thread = me();
-    Resource->Readers[mine].Count += times;
-    set_event(&Resource->Changed);
+    Resource->HostExclusive = 0;
+    Resource->HostShared += times;
+    Resource->HostReaders[mine].Thread = me();
+    Resource->HostReaders[mine].Count += times;
+    count_active(Resource);
+    set_event(&Resource->HostChanged);
     pthread_mutex_unlock(&host_lock);
 }
 

@@ -1,42 +1,68 @@
-/* restored.c: whether a device that was asked to stop or to go, and may stay, answers as before: a write and each control. */
+/* restored.c: whether a device that had no power, or was asked to stop or to go, is as before once that is over: it answers a
+   write, a read and each control as it did, and ends those that came meanwhile. */
 #include "host.h"
 #include "requests.h"
 
-enum { MOST_ASKED = 17, LENGTH = 16, MOMENT = 10 }; /* milliseconds */
+enum { MOST_ASKED = 18, LENGTH = 16, MOMENT = 10, TIMES = 3 }; /* milliseconds */
 
-/* What such requests were answered, and where the answer was given. */
-typedef struct { What what; NTSTATUS status; WDM_SITE at; Callers by; } Answer;
-static Answer before[MOST_ASKED];
-static int n_asked;
+/* What is asked for, what it was answered before, and where; and whether it ended by itself each time. `meanwhile`: the same
+   request, which comes while the device may not be used. */
+typedef struct { What what; BOOLEAN ends, is_sent; NTSTATUS status; WDM_SITE at; Callers by; Request meanwhile; } Compared;
+static Compared all[MOST_ASKED];
+static int n_all;
 
-static Answer ask_for(PDEVICE_OBJECT top, What what)
+static void keep_place(Compared *c, PIRP irp)
 {
-    Answer a = { .what = what, .status = STATUS_PENDING };
-    LARGE_INTEGER limit = { .QuadPart = -10000LL * MOMENT };
-    Request r;
-    if (!start_request(&r, top, what, KEPT))
-        return a;
-    KeWaitForSingleObject(&r.done, Executive, KernelMode, FALSE, &limit);
-    if (KeReadStateEvent(&r.done)) {
-        Call c;
-        a.status = r.result.Status;
-        enter_quietly(&c, "the answer is kept", (WDM_SITE){ 0 });
-        const Packet *p = find(r.irp);
-        a.at = p->sites.completed;
-        a.by = p->completers;
-        leave_host();
-    }
-    end_request(&r, 0);
-    return a;
+    Call call;
+    enter_quietly(&call, "the answer is kept", (WDM_SITE){ 0 });
+    const Packet *p = find(irp);
+    c->at = p->sites.completed;
+    c->by = p->completers;
+    leave_host();
 }
 
-/* Before it is asked. */
+/* Asks for it, and gives it a moment. Returns whether it ends by itself. */
+static BOOLEAN ask_for(PDEVICE_OBJECT top, Compared *c)
+{
+    LARGE_INTEGER limit = { .QuadPart = -10000LL * MOMENT };
+    Request r;
+    c->status = STATUS_PENDING;
+    if (!start_request(&r, top, c->what, KEPT))
+        return FALSE;
+    KeWaitForSingleObject(&r.done, Executive, KernelMode, FALSE, &limit);
+    const BOOLEAN ends = !is_held(&r);
+    if (ends) {
+        c->status = r.result.Status;
+        keep_place(c, r.irp);
+    }
+    end_request(&r, 0);
+    return ends;
+}
+
+/* One that didn't end by itself once may wait for what doesn't come again: it isn't compared any more. */
+static void add(What what)
+{
+    Compared *c = &all[n_all++];
+    const BOOLEAN is_known = c->what.major == what.major && c->what.code == what.code && c->what.length == what.length;
+    *c = (Compared){ .what = what, .ends = !is_known || c->ends };
+}
+
 void keep_answers(PDEVICE_OBJECT top)
 {
-    n_asked = 0;
-    before[n_asked++] = ask_for(top, (What){ IRP_MJ_WRITE, LENGTH, 0 });
-    for (int i = 0; i < n_controls && n_asked < MOST_ASKED; i++)
-        before[n_asked++] = ask_for(top, (What){ IRP_MJ_DEVICE_CONTROL, LENGTH, controls[i] });
+    n_all = 0;
+    add(transfer(IRP_MJ_WRITE, LENGTH));
+    add(transfer(IRP_MJ_READ, LENGTH));
+    for (int i = 0; i < n_controls && n_all < MOST_ASKED; i++)
+        add(control(i, LENGTH));
+    for (int i = 0; i < 2 * n_all; i++)
+        if (all[i % n_all].ends)
+            all[i % n_all].ends = ask_for(top, &all[i % n_all]);
+}
+
+void ask_meanwhile(PDEVICE_OBJECT top)
+{
+    for (int i = 0; i < n_all; i++)
+        all[i].is_sent = start_request(&all[i].meanwhile, top, all[i].what, PLAIN);
 }
 
 /* An answer of a device that isn't started, or goes. */
@@ -47,30 +73,67 @@ static bool is_away(NTSTATUS status)
         status == STATUS_DEVICE_NOT_CONNECTED || status == STATUS_DEVICE_OFF_LINE;
 }
 
-static void tell(const Answer *was, const Answer *is, UCHAR minor)
+static void name_of(What what, char *text, size_t size)
+{
+    char code[24] = "";
+    if (what.major == IRP_MJ_DEVICE_CONTROL)
+        snprintf(code, sizeof code, " %#x", what.code);
+    snprintf(text, size, "%s%s", major_name(what.major), code);
+}
+
+static void tell_away(const Compared *was, const Compared *is, const char *over)
 {
     Call c;
-    char code[40] = "";
-    if (was->what.major == IRP_MJ_DEVICE_CONTROL)
-        snprintf(code, sizeof code, " %#x", was->what.code);
-    enter_quietly(&c, "IRP_MN_CANCEL_REMOVE_DEVICE", (WDM_SITE){ 0 });
-    const char *act = minor == IRP_MN_CANCEL_STOP_DEVICE ? "STOP" : "REMOVE";
-    broken_at("NotRestored", "IoCompleteRequest", is->at, "%s%s is answered with %#x after IRP_MN_CANCEL_%s_DEVICE, at %s, and "
-              "was with %#x before IRP_MN_QUERY_%s_DEVICE", major_name(was->what.major), code, (unsigned)is->status, act,
-              place_with_callers(is->at, &is->by), (unsigned)was->status, act);
+    char name[80];
+    name_of(was->what, name, sizeof name);
+    enter_quietly(&c, over, (WDM_SITE){ 0 });
+    broken_at("NotRestored", "IoCompleteRequest", is->at, "%s is answered with %#x after %s, at %s, and was with %#x before",
+              name, (unsigned)is->status, over, place_with_callers(is->at, &is->by), (unsigned)was->status);
     leave_host();
 }
 
-/* After the cancel. A device may need a moment: it is asked again. */
-void compare_answers(PDEVICE_OBJECT top, UCHAR minor)
+/* What ended by itself before, came meanwhile, and is held by a driver of the stack once nothing else goes on. The device may
+   need other requests first, as where a read waits for what is written. */
+static void check_held(PDEVICE_OBJECT top, const char *over)
+{
+    BOOLEAN is_any = FALSE;
+    let_bottom_finish();
+    for (int i = 0; i < n_all; i++)
+        is_any |= all[i].is_sent && all[i].ends && is_held(&all[i].meanwhile) && WdmIsKept(all[i].meanwhile.irp);
+    for (int i = 0; is_any && i < TIMES * n_all; i++)
+        make_request(top, all[i % n_all].what, PLAIN, MOMENT);
+    for (int i = 0; is_any && i < n_all; i++)
+        if (all[i].is_sent && all[i].ends && is_held(&all[i].meanwhile))
+            WdmTellHeld(all[i].meanwhile.irp, over);
+}
+
+/* A device may need a moment: it is asked again. What is held where it was answered is told, too. */
+static void ask_again(PDEVICE_OBJECT top, const Compared *before, const char *over)
 {
     LARGE_INTEGER moment = { .QuadPart = -10000LL * MOMENT };
-    for (int i = 0; i < n_asked; i++) {
-        if (!NT_SUCCESS(before[i].status) || before[i].status == STATUS_PENDING || !is_away(ask_for(top, before[i].what).status))
-            continue;
-        KeDelayExecutionThread(KernelMode, FALSE, &moment);
-        const Answer now = ask_for(top, before[i].what);
-        if (is_away(now.status))
-            tell(&before[i], &now, minor);
-    }
+    Compared now = *before;
+    Request r;
+    if (!before->ends || (ask_for(top, &now) && !is_away(now.status)))
+        return;
+    KeDelayExecutionThread(KernelMode, FALSE, &moment);
+    if (!ask_for(top, &now) && start_request(&r, top, before->what, PLAIN)) {
+        if (is_held(&r))
+            WdmTellHeld(r.irp, over);
+        end_request(&r, 0);
+    } else if (NT_SUCCESS(before->status) && is_away(now.status))
+        tell_away(before, &now, over);
+}
+
+void compare_answers(PDEVICE_OBJECT top, const char *over)
+{
+    check_held(top, over);
+    for (int i = 0, wait = PATIENT; i < n_all; i++)
+        if (all[i].is_sent) {
+            if (is_held(&all[i].meanwhile) && all[i].what.major != IRP_MJ_READ)
+                wait = 0;
+            end_request(&all[i].meanwhile, all[i].what.major == IRP_MJ_READ ? PATIENT : wait);
+            all[i].is_sent = FALSE;
+        }
+    for (int i = 0; i < n_all; i++)
+        ask_again(top, &all[i], over);
 }

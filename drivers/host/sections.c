@@ -2,8 +2,8 @@
    call says so. */
 #include "host.h"
 
-typedef struct { UNICODE_STRING name; PVOID memory; SIZE_T size; bool is_file; } Made;
-static struct _OBJECT_TYPE { const char *name; } section_type = { "section" }, written_type = { "written file" };
+typedef struct { UNICODE_STRING name; PVOID memory; SIZE_T size; bool is_file; FILE_OBJECT file; } Made;
+static struct _OBJECT_TYPE { const char *name; } section_type = { "section" };
 static Made made[64];
 static int n_made;
 
@@ -25,7 +25,8 @@ static PVOID make(PCWSTR path, SIZE_T size, bool is_file)
     if (n_made == 64)
         reach_limit("more than 64 sections and files");
     Made *m = &made[n_made++];
-    *m = (Made){ .memory = host_memory(size ? size : 1), .size = size, .is_file = is_file };
+    *m = (Made){ .memory = host_memory(size ? size : 1), .size = size, .is_file = is_file,
+                 .file = { .Type = IO_TYPE_FILE, .Size = sizeof(FILE_OBJECT) } }; /* of no device */
     copy_text(&m->name, &name);
     pthread_mutex_unlock(&host_lock);
     return m->memory;
@@ -39,7 +40,7 @@ static NTSTATUS open_made(const char *call, PHANDLE handle, POBJECT_ATTRIBUTES a
     *handle = NULL;
     for (int i = 0; i < n_made; i++)
         if (made[i].is_file == is_file && a->ObjectName && RtlEqualUnicodeString(&made[i].name, a->ObjectName, TRUE)) {
-            *handle = new_handle((POBJECT_TYPE)(is_file ? &written_type : &section_type), &made[i]);
+            *handle = is_file ? new_handle(*IoFileObjectType, &made[i].file) : new_handle((POBJECT_TYPE)&section_type, &made[i]);
             return *handle ? STATUS_SUCCESS : STATUS_INSUFFICIENT_RESOURCES;
         }
     return refused(call);
@@ -104,7 +105,7 @@ NTSTATUS ZwWriteFile(HANDLE File, HANDLE Event, PIO_APC_ROUTINE Apc, PVOID Conte
     (void)Event, (void)Apc, (void)Context, (void)Key;
     if (transfer_by_handle(File, IRP_MJ_WRITE, Iosb, Buffer, Length, Offset))
         return Iosb->Status;
-    if (!handle_object(File, (POBJECT_TYPE)&written_type))
+    if (!handle_object(File, *IoFileObjectType))
         return STATUS_INVALID_HANDLE;
     Iosb->Status = STATUS_SUCCESS;
     Iosb->Information = Length;

@@ -26,6 +26,8 @@
     ROW(TWO_FILES, "two files open at once", ANY) \
     ROW(CLEANUP_HELD, "a file closed while a driver holds its request", BY_DRIVER) \
     ROW(CLEANUP_OTHER, "a file closed while a driver holds another one's request", BY_DRIVER) \
+    ROW(CONTROL_CLEANUP, "a file closed while a driver holds its control", BY_DRIVER) \
+    ROW(CROWD, "more and more of a request that a driver holds", BY_DRIVER) \
     ROW(AT_ONCE, "a device below that completes at once", BELOW) \
     ROW(LATER, "a device below that completes later", BELOW) \
     ROW(PENDS_ALL, "a device below that pends Plug and Play and power too", BELOW) \
@@ -34,6 +36,7 @@
     ROW(UNKNOWN_PNP, "a Plug and Play request that nobody knows", BELOW) \
     ROW(WMI, "a request of WMI", BELOW) \
     ROW(PAGING, "a paging file that comes and goes", BELOW) \
+    ROW(USAGE_REFUSED, "a paging file that the device below refuses", BELOW) \
     ROW(STOP_ASKED, "a stop asked for and called off", BELOW) \
     ROW(READ_STOPPING, "a read between QUERY_STOP and CANCEL_STOP", BELOW) \
     ROW(STOPPED_AGAIN, "a stop, and a start again", BELOW) \

@@ -22,6 +22,22 @@ static VOID queue_item(PIO_WORKITEM item, PIO_WORKITEM_ROUTINE_EX routine, WORK_
     WdmIoQueueWorkItemEx(item, routine, context, nowhere);
 }
 
+static VOID initialize_dpc(PKDPC dpc, PKDEFERRED_ROUTINE routine, PVOID context)
+{
+    WdmKeInitializeDpc(dpc, routine, context, nowhere);
+}
+static VOID call_on_each(PKDEFERRED_ROUTINE routine, PVOID context) { WdmKeGenericCallDpc(routine, context, nowhere); }
+static KAFFINITY active_processors(VOID) { return KeQueryActiveProcessors(); }
+static NTSTATUS expand_stack(PEXPAND_STACK_CALLOUT callout, PVOID parameter, SIZE_T size)
+{
+    return KeExpandKernelStackAndCallout(callout, parameter, size);
+}
+static NTSTATUS new_extension(PDRIVER_OBJECT driver, PVOID id, ULONG bytes, PVOID *extension)
+{
+    return IoAllocateDriverObjectExtension(driver, id, bytes, extension);
+}
+static USHORT build_number = WDM_BUILD;
+
 #define ROUTINE(name) { #name, (void *)(name) }
 static const struct { const char *name; void *routine; } routines[] = {
     ROUTINE(DbgPrint), ROUTINE(DbgPrintEx), ROUTINE(vDbgPrintEx), ROUTINE(KeQuerySystemTime), ROUTINE(KeQueryInterruptTime),
@@ -40,18 +56,35 @@ static const struct { const char *name; void *routine; } routines[] = {
     { "ExAllocatePoolWithTag", (void *)(ExAllocatePoolWithTag) }, { "ExFreePoolWithTag", (void *)(ExFreePoolWithTag) },
     { "ExFreePool", (void *)(ExFreePool) }, ROUTINE(RtlInitUnicodeString), ROUTINE(RtlCopyUnicodeString),
     ROUTINE(RtlEqualUnicodeString), ROUTINE(RtlCompareUnicodeString), ROUTINE(RtlUnicodeStringToInteger),
+    { "KeInitializeDpc", (void *)initialize_dpc }, { "KeGenericCallDpc", (void *)call_on_each },
+    ROUTINE(KeSignalCallDpcDone), ROUTINE(KeSignalCallDpcSynchronize), ROUTINE(KeExpandKernelStackAndCalloutEx),
+    { "KeExpandKernelStackAndCallout", (void *)expand_stack }, { "KeQueryActiveProcessors", (void *)active_processors },
+    ROUTINE(KeSetSystemAffinityThreadEx), ROUTINE(KeRevertToUserAffinityThreadEx), ROUTINE(ObGetObjectType),
+    ROUTINE(PsGetVersion), { "IoAllocateDriverObjectExtension", (void *)new_extension },
+    ROUTINE(IoGetDriverObjectExtension),
 };
+
+/* What Windows exports and is no routine. */
+static PVOID exported(const char *name)
+{
+    return !strcmp(name, "ExEventObjectType") ? (PVOID)ExEventObjectType : !strcmp(name, "PsThreadType") ? (PVOID)PsThreadType :
+        !strcmp(name, "IoFileObjectType") ? (PVOID)IoFileObjectType : !strcmp(name, "PsProcessType") ? (PVOID)PsProcessType :
+        !strcmp(name, "IoDriverObjectType") ? (PVOID)IoDriverObjectType :
+        !strcmp(name, "IoDeviceObjectType") ? (PVOID)IoDeviceObjectType :
+        !strcmp(name, "PsInitialSystemProcess") ? (PVOID)&PsInitialSystemProcess :
+        !strcmp(name, "NtBuildNumber") ? (PVOID)&build_number : NULL;
+}
 
 PVOID WdmSystemRoutine(PUNICODE_STRING Name, WDM_SITE at)
 {
     Call c;
     char name[80];
     const size_t n = Name->Length / sizeof(WCHAR);
-    PVOID found = NULL;
     enter_quietly(&c, "MmGetSystemRoutineAddress", at);
     for (size_t i = 0; i < n && n < sizeof name; i++)
         name[i] = (char)Name->Buffer[i];
     name[n < sizeof name ? n : 0] = 0;
+    PVOID found = exported(name);
     for (size_t i = 0; i < ARRAYSIZE(routines) && !found; i++)
         if (!strcmp(routines[i].name, name))
             found = routines[i].routine;

@@ -66,6 +66,7 @@ static NTSTATUS load(const char *Name, PDRIVER_INITIALIZE Entry, PDRIVER_OBJECT 
     d->DriverExtension = extension;
     d->DriverInit = Entry;
     d->HostName = Name;
+    d->DriverName = driver_name(Name);
     d->HostNumber = n_drivers;
     drivers[n_drivers++] = d;
     const int before = self.driver;
@@ -298,8 +299,8 @@ size_t write_out(void)
         write_places(path, n);
     hand_in(text, length, n);
     write_summary(n);
-    say("%zu entries, %d fault%s%s, %d notes", n, n_faults, n_faults == 1 ? "" : "s",
-        stopped_by ? " (one of them that it stopped)" : "", n_notes);
+    say("%zu entr%s, %d fault%s%s, %d note%s", n, n == 1 ? "y" : "ies", n_faults, n_faults == 1 ? "" : "s",
+        stopped_by ? " (one of them that it stopped)" : "", n_notes, n_notes == 1 ? "" : "s");
     if (n_early)
         say("recorded before the dispatch returned, since another thread had the packet: %d", n_early);
     return n;

@@ -253,6 +253,13 @@ int start_thread(void *(*run)(void *), void *context, const char *kind, void *fn
 }
 
 static struct _KTHREAD *threads; /* of drivers: their objects stay until the end of the run */
+enum { THREAD_OBJECT = 6 };      /* as Windows numbers it */
+
+static void begin_thread_object(struct _KTHREAD *t)
+{
+    WdmKeInitializeEvent(&t->ended, NotificationEvent, FALSE);
+    t->ended.Header.Type = THREAD_OBJECT;
+}
 
 static bool are_over(const void *driver)
 {
@@ -296,7 +303,7 @@ NTSTATUS WdmPsCreateSystemThread(PHANDLE Handle, PKSTART_ROUTINE Start, PVOID Co
     struct _KTHREAD *t = host_memory(sizeof *t);
     if (!t)
         give_up("out of memory");
-    WdmKeInitializeEvent(&t->ended, NotificationEvent, FALSE);
+    begin_thread_object(t);
     t->start = Start;
     t->context = Context;
     t->driver = calling_driver();
@@ -326,7 +333,7 @@ PKTHREAD KeGetCurrentThread(VOID)
     if (!self.thread) {
         self.thread = host_memory(sizeof *self.thread);
         if (self.thread)
-            WdmKeInitializeEvent(&self.thread->ended, NotificationEvent, FALSE);
+            begin_thread_object(self.thread);
     }
     return self.thread;
 }
@@ -335,6 +342,29 @@ KPRIORITY KeSetPriorityThread(PKTHREAD Thread, KPRIORITY Priority)
 {
     (void)Thread, (void)Priority;
     return 8;
+}
+
+bool is_thread_of_driver(const void *object)
+{
+    for (const struct _KTHREAD *t = threads; t; t = t->next)
+        if (t == object)
+            return true;
+    return false;
+}
+
+/* A thread that a driver made, until it ends, or the one that asks. */
+NTSTATUS WdmPsLookupThread(HANDLE Number, PETHREAD *Thread, WDM_SITE at)
+{
+    Call c;
+    enter_host(&c, "PsLookupThreadByThreadId", at);
+    PETHREAD found = (PETHREAD)Number;
+    const bool is_there = found && (found == self.thread || (is_thread_of_driver(found) && !found->ended.Header.SignalState));
+    leave_host();
+    if (!is_there)
+        return STATUS_INVALID_CID;
+    *Thread = found;
+    WdmObReferenceObject(found, at);
+    return STATUS_SUCCESS;
 }
 
 /* One that a driver made, or that runs routines of drivers: not one of a program. */

@@ -32,9 +32,11 @@ void tell_others(void);
 void tell_packets(void);
 __attribute__((noreturn)) void end_process(int status);
 void hang(Woken why, unsigned long began, WDM_SITE at);
+bool tell_framework_waits(void); /* pofx_steps.c, under G; then the wait may go on */
 bool stands_still_since(unsigned long began);
 bool is_cancelled_and_held(const Packet *p);
 void tell_cancelled_and_held(const Packet *p);
+CallSite last_call_of(const Packet *p, int device); /* hangs.c */
 
 /* printing.c, text.c */
 size_t print_wide(char *to, size_t room, const WCHAR *format, va_list list);
@@ -64,6 +66,7 @@ void function_ran(const void *fn);
 void routine_was_called(const void *fn, bool with_error);
 void cancel_routine_set(const void *fn, bool is_called);
 void request_came(int driver, UCHAR major, UCHAR minor);
+void control_ended(int driver, ULONG status);
 void learn_dispatches(void);
 void write_covered(FILE *out);
 
@@ -76,6 +79,12 @@ void tell_packet_leaks(void);
 /* objects.c, mdl.c, start_io.c: what wdm_ob.h, wdm_mm.h and wdm_hw.h have */
 bool is_referenced(PVOID object);
 HANDLE new_handle(POBJECT_TYPE type, PVOID object);
+POBJECT_TYPE type_by_handles(const void *object);
+bool is_thread_of_driver(const void *object);
+PCUNICODE_STRING name_of_event(const void *object);
+PCUNICODE_STRING name_of_device(const void *device);
+UNICODE_STRING driver_name(const char *name); /* `\Driver\` before it */
+void drop_directory(const void *object);      /* its last handle is closed: under G */
 PVOID handle_object(HANDLE handle, POBJECT_TYPE type);
 void tell_references(void);
 void forget_names(PDEVICE_OBJECT device);

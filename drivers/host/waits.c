@@ -7,7 +7,8 @@
  */
 #include "host.h"
 
-enum { EVENT = 1, SEMAPHORE, MUTEX };
+/* As Windows numbers them. A timer is an event of its own numbers, and so is a thread's end. */
+enum { NOTIFICATION_EVENT, SYNCHRONIZATION_EVENT, MUTEX, SEMAPHORE = 5, EVENT_SIZE = sizeof(KEVENT) / sizeof(LONG) };
 static pthread_mutex_t wait_lock = PTHREAD_MUTEX_INITIALIZER; /* W */
 static Condition changed = { &wait_lock, PTHREAD_COND_INITIALIZER };
 static const WDM_SITE nowhere;
@@ -33,11 +34,18 @@ static LONG change(DISPATCHER_HEADER *h, LONG state, bool add)
 
 VOID WdmKeInitializeEvent(PKEVENT e, EVENT_TYPE type, BOOLEAN state)
 {
-    make(&e->Header, EVENT, type == SynchronizationEvent, state != 0);
+    const bool synchronizes = type == SynchronizationEvent;
+    make(&e->Header, synchronizes ? SYNCHRONIZATION_EVENT : NOTIFICATION_EVENT, synchronizes, state != 0);
+    e->Header.Size = EVENT_SIZE;
     remember_event(e);
 }
 
-bool is_event(const void *object) { return ((const DISPATCHER_HEADER *)object)->Type == EVENT; }
+bool is_event(const void *object)
+{
+    const DISPATCHER_HEADER *h = object;
+    return h->Type <= SYNCHRONIZATION_EVENT && h->Size == EVENT_SIZE;
+}
+
 void set_event(PKEVENT e) { change(&e->Header, 1, false); }
 void clear_event(PKEVENT e) { change(&e->Header, 0, false); }
 
@@ -137,10 +145,10 @@ static bool can_be_taken(DISPATCHER_HEADER *h)
 static void take(DISPATCHER_HEADER *h)
 {
     touch(h, SYNCS);
-    if (h->Type == EVENT && h->Synchronizes)
-        h->SignalState = 0;
-    else if (h->Type != EVENT)
+    if (h->Type == SEMAPHORE || h->Type == MUTEX)
         h->SignalState--;
+    else if (h->Synchronizes)
+        h->SignalState = 0;
     if (h->Type == MUTEX)
         ((KMUTANT *)h)->OwnerThread = (PVOID)this_thread();
 }

@@ -264,16 +264,25 @@ static bool is_armed(const KTIMER *timer)
     return t;
 }
 
-/* One that is armed goes off no more. What Windows does with it then isn't known; the others stay armed. */
+/* One that is armed still goes off, once, and makes its deferred call, as in Windows: the system's list has it. */
 VOID KeInitializeTimerEx(PKTIMER Timer, TIMER_TYPE Type)
 {
-    KEVENT *e = (KEVENT *)Timer;
+    const bool synchronizes = Type == SynchronizationTimer;
     hold_host("KeInitializeTimer", &timers, SYNCS);
-    if (is_armed(Timer))
-        take_out(Timer);
+    const bool stays = is_armed(Timer);
+    if (stays) {
+        clear_event((PKEVENT)Timer);
+        n_armed += Timer->Period != 0;
+        Timer->Period = 0;
+    }
     pthread_mutex_unlock(&host_lock);
-    memset(Timer, 0, sizeof *Timer);
-    WdmKeInitializeEvent(e, Type == SynchronizationTimer ? SynchronizationEvent : NotificationEvent, FALSE);
+    if (!stays) {
+        memset(Timer, 0, sizeof *Timer);
+        WdmKeInitializeEvent((PKEVENT)Timer, synchronizes ? SynchronizationEvent : NotificationEvent, FALSE);
+    }
+    Timer->Header.Synchronizes = synchronizes;
+    Timer->Header.Type = synchronizes ? 9 : 8; /* as Windows numbers them */
+    Timer->Header.Size = 0;
 }
 
 BOOLEAN WdmKeSetTimer(PKTIMER Timer, LARGE_INTEGER DueTime, LONG Period, PKDPC Dpc, WDM_SITE at)
@@ -313,11 +322,14 @@ BOOLEAN KeCancelTimer(PKTIMER Timer)
 
 BOOLEAN KeReadStateTimer(PKTIMER Timer) { return KeReadStateEvent((PKEVENT)Timer) != 0; }
 
+enum { DPC_OBJECT = 0x13 }; /* as Windows numbers it */
+
 VOID WdmKeInitializeDpc(PKDPC Dpc, PKDEFERRED_ROUTINE Routine, PVOID Context, WDM_SITE at)
 {
     Call c;
     enter_host(&c, "KeInitializeDpc", at);
-    *Dpc = (KDPC){ .DeferredRoutine = Routine, .DeferredContext = Context, .HostDriver = calling_driver() };
+    *Dpc = (KDPC){ .Type = DPC_OBJECT, .Importance = MediumImportance, .DeferredRoutine = Routine, .DeferredContext = Context,
+                   .HostDriver = calling_driver() };
     leave_host();
 }
 
@@ -364,7 +376,8 @@ static bool dpcs_are_done(const void *context)
 
 static bool work_is_done(const void *context)
 {
-    return workers_are_idle() && dpcs_are_done(context) && plug_and_play_is_idle() && power_manager_is_idle();
+    return workers_are_idle() && dpcs_are_done(context) && plug_and_play_is_idle() && power_manager_is_idle() &&
+        power_framework_is_idle();
 }
 
 /* Under G: work items and deferred calls that are queued are waited for, as long as something goes on. */

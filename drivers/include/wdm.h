@@ -14,6 +14,7 @@
 #include "wdm_callbacks.h"
 #include "wdm_dma.h"
 #include "wdm_power.h"
+#include "wdm_pofx.h"
 #include "wdm_levels.h"
 
 #endif

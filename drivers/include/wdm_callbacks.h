@@ -18,9 +18,10 @@ VOID WdmExNotifyCallback(PVOID Object, PVOID Argument1, PVOID Argument2, WDM_SIT
 #define ExUnregisterCallback(registration) WdmExUnregisterCallback((registration), WDM_HERE)
 #define ExNotifyCallback(object, one, two) WdmExNotifyCallback((object), (one), (two), WDM_HERE)
 
-NTSTATUS WdmObOpenByPointer(PVOID Object, PHANDLE Handle, WDM_SITE at);
+NTSTATUS WdmObOpenByPointer(PVOID Object, POBJECT_TYPE Type, PHANDLE Handle, WDM_SITE at);
 #define ObOpenObjectByPointer(object, attributes, state, access, type, mode, handle) \
-    ((void)(attributes), (void)(state), (void)(access), (void)(type), (void)(mode), WdmObOpenByPointer((object), (handle), WDM_HERE))
+    ((void)(attributes), (void)(state), (void)(access), (void)(mode), \
+     WdmObOpenByPointer((object), (POBJECT_TYPE)(type), (handle), WDM_HERE))
 
 #define MM_DONT_ZERO_ALLOCATION 1
 #define MM_ALLOCATE_FROM_LOCAL_NODE_ONLY 2

@@ -62,6 +62,55 @@ typedef NTSTATUS CALCULATE_SCATTER_GATHER_LIST_SIZE(PDMA_ADAPTER Adapter, PMDL M
 typedef NTSTATUS BUILD_SCATTER_GATHER_LIST(PDMA_ADAPTER Adapter, PDEVICE_OBJECT Device, PMDL Mdl, PVOID Va, ULONG Length,
                                            PDRIVER_LIST_CONTROL Routine, PVOID Context, BOOLEAN ToDevice, PVOID Room,
                                            ULONG RoomLength);
+/* Version 3's. */
+#define DMA_TRANSFER_CONTEXT_VERSION1 1
+#define DMA_TRANSFER_CONTEXT_SIZE_V1 128
+#define DMA_SYNCHRONOUS_CALLBACK 1
+#define DMA_ADAPTER_INFO_VERSION1 1
+#define DMA_TRANSFER_INFO_VERSION1 1
+#define ADAPTER_INFO_SYNCHRONOUS_CALLBACK 1
+#define MM_ANY_NODE_OK 0x80000000
+typedef ULONG NODE_REQUIREMENT;
+typedef enum { DmaComplete, DmaAborted, DmaError, DmaCancelled } DMA_COMPLETION_STATUS;
+typedef VOID DMA_COMPLETION_ROUTINE(PDMA_ADAPTER Adapter, PDEVICE_OBJECT Device, PVOID Context, DMA_COMPLETION_STATUS Status);
+typedef DMA_COMPLETION_ROUTINE *PDMA_COMPLETION_ROUTINE; /* of a system's controller: never called */
+typedef struct _DMA_ADAPTER_INFO_V1 {
+    ULONG ReadDmaCounterAvailable, ScatterGatherLimit, DmaAddressWidth, Flags, MinimumTransferUnit;
+} DMA_ADAPTER_INFO_V1, *PDMA_ADAPTER_INFO_V1;
+typedef struct _DMA_ADAPTER_INFO { ULONG Version; union { DMA_ADAPTER_INFO_V1 V1; }; } DMA_ADAPTER_INFO, *PDMA_ADAPTER_INFO;
+typedef struct _DMA_TRANSFER_INFO_V1 {
+    ULONG MapRegisterCount, ScatterGatherElementCount, ScatterGatherListSize;
+} DMA_TRANSFER_INFO_V1, *PDMA_TRANSFER_INFO_V1;
+typedef struct _DMA_TRANSFER_INFO { ULONG Version; union { DMA_TRANSFER_INFO_V1 V1; }; } DMA_TRANSFER_INFO, *PDMA_TRANSFER_INFO;
+typedef NTSTATUS GET_DMA_ADAPTER_INFO(PDMA_ADAPTER Adapter, PDMA_ADAPTER_INFO Info);
+typedef NTSTATUS GET_DMA_TRANSFER_INFO(PDMA_ADAPTER Adapter, PMDL Mdl, ULONGLONG Offset, ULONG Length, BOOLEAN WriteOnly,
+                                       PDMA_TRANSFER_INFO Info);
+typedef NTSTATUS INITIALIZE_DMA_TRANSFER_CONTEXT(PDMA_ADAPTER Adapter, PVOID Transfer);
+typedef PVOID ALLOCATE_COMMON_BUFFER_EX(PDMA_ADAPTER Adapter, PPHYSICAL_ADDRESS Highest, ULONG Length, PPHYSICAL_ADDRESS Logical,
+                                        BOOLEAN Cache, NODE_REQUIREMENT Node);
+typedef NTSTATUS ALLOCATE_ADAPTER_CHANNEL_EX(PDMA_ADAPTER Adapter, PDEVICE_OBJECT Device, PVOID Transfer, ULONG Registers,
+                                             ULONG Flags, PDRIVER_CONTROL Routine, PVOID Context, PVOID *Base);
+typedef BOOLEAN CANCEL_ADAPTER_CHANNEL(PDMA_ADAPTER Adapter, PDEVICE_OBJECT Device, PVOID Transfer);
+typedef NTSTATUS MAP_TRANSFER_EX(PDMA_ADAPTER Adapter, PMDL Mdl, PVOID Base, ULONGLONG Offset, ULONG DeviceOffset, PULONG Length,
+                                 BOOLEAN ToDevice, PSCATTER_GATHER_LIST List, ULONG ListLength, PDMA_COMPLETION_ROUTINE Completed,
+                                 PVOID CompletionContext);
+typedef NTSTATUS GET_SCATTER_GATHER_LIST_EX(PDMA_ADAPTER Adapter, PDEVICE_OBJECT Device, PVOID Transfer, PMDL Mdl,
+                                            ULONGLONG Offset, ULONG Length, ULONG Flags, PDRIVER_LIST_CONTROL Routine,
+                                            PVOID Context, BOOLEAN ToDevice, PDMA_COMPLETION_ROUTINE Completed,
+                                            PVOID CompletionContext, PSCATTER_GATHER_LIST *List);
+typedef NTSTATUS FLUSH_ADAPTER_BUFFERS_EX(PDMA_ADAPTER Adapter, PMDL Mdl, PVOID Base, ULONGLONG Offset, ULONG Length,
+                                          BOOLEAN ToDevice);
+typedef VOID FREE_ADAPTER_OBJECT(PDMA_ADAPTER Adapter, IO_ALLOCATION_ACTION Action);
+typedef GET_DMA_ADAPTER_INFO *PGET_DMA_ADAPTER_INFO;
+typedef GET_DMA_TRANSFER_INFO *PGET_DMA_TRANSFER_INFO;
+typedef INITIALIZE_DMA_TRANSFER_CONTEXT *PINITIALIZE_DMA_TRANSFER_CONTEXT;
+typedef ALLOCATE_COMMON_BUFFER_EX *PALLOCATE_COMMON_BUFFER_EX;
+typedef ALLOCATE_ADAPTER_CHANNEL_EX *PALLOCATE_ADAPTER_CHANNEL_EX;
+typedef CANCEL_ADAPTER_CHANNEL *PCANCEL_ADAPTER_CHANNEL;
+typedef MAP_TRANSFER_EX *PMAP_TRANSFER_EX;
+typedef GET_SCATTER_GATHER_LIST_EX *PGET_SCATTER_GATHER_LIST_EX;
+typedef FLUSH_ADAPTER_BUFFERS_EX *PFLUSH_ADAPTER_BUFFERS_EX;
+typedef FREE_ADAPTER_OBJECT *PFREE_ADAPTER_OBJECT;
 typedef PUT_DMA_ADAPTER *PPUT_DMA_ADAPTER;
 typedef ALLOCATE_COMMON_BUFFER *PALLOCATE_COMMON_BUFFER;
 typedef FREE_COMMON_BUFFER *PFREE_COMMON_BUFFER;
@@ -92,7 +141,20 @@ struct _DMA_OPERATIONS {
     PPUT_SCATTER_GATHER_LIST PutScatterGatherList;
     PCALCULATE_SCATTER_GATHER_LIST_SIZE CalculateScatterGatherList;
     PBUILD_SCATTER_GATHER_LIST BuildScatterGatherList;
-    PVOID BuildMdlFromScatterGatherList; /* this and what comes with version 3 isn't there */
+    PVOID HostHasNone1; /* BuildMdlFromScatterGatherList: it isn't there, as are the others of these */
+    PGET_DMA_ADAPTER_INFO GetDmaAdapterInfo; /* from here on version 3's */
+    PGET_DMA_TRANSFER_INFO GetDmaTransferInfo;
+    PINITIALIZE_DMA_TRANSFER_CONTEXT InitializeDmaTransferContext;
+    PALLOCATE_COMMON_BUFFER_EX AllocateCommonBufferEx;
+    PALLOCATE_ADAPTER_CHANNEL_EX AllocateAdapterChannelEx;
+    PVOID HostHasNone2; /* ConfigureAdapterChannel */
+    PCANCEL_ADAPTER_CHANNEL CancelAdapterChannel;
+    PMAP_TRANSFER_EX MapTransferEx;
+    PGET_SCATTER_GATHER_LIST_EX GetScatterGatherListEx;
+    PVOID HostHasNone3; /* BuildScatterGatherListEx */
+    PFLUSH_ADAPTER_BUFFERS_EX FlushAdapterBuffersEx;
+    PFREE_ADAPTER_OBJECT FreeAdapterObject;
+    PVOID HostHasNone4[12]; /* CancelMappedTransfer, domains, vectors of common buffers, and so on */
 };
 
 PDMA_ADAPTER WdmIoGetDmaAdapter(PDEVICE_OBJECT Pdo, PDEVICE_DESCRIPTION Description, PULONG Registers, WDM_SITE at);
@@ -109,6 +171,16 @@ PDMA_ADAPTER WdmDmaAt(PDMA_ADAPTER Adapter, WDM_SITE at);
 #define GetScatterGatherList(adapter, ...) GetScatterGatherList(WdmDmaAt((adapter), WDM_HERE), __VA_ARGS__)
 #define PutScatterGatherList(adapter, ...) PutScatterGatherList(WdmDmaAt((adapter), WDM_HERE), __VA_ARGS__)
 #define BuildScatterGatherList(adapter, ...) BuildScatterGatherList(WdmDmaAt((adapter), WDM_HERE), __VA_ARGS__)
+#define GetDmaAdapterInfo(adapter, ...) GetDmaAdapterInfo(WdmDmaAt((adapter), WDM_HERE), __VA_ARGS__)
+#define GetDmaTransferInfo(adapter, ...) GetDmaTransferInfo(WdmDmaAt((adapter), WDM_HERE), __VA_ARGS__)
+#define InitializeDmaTransferContext(adapter, ...) InitializeDmaTransferContext(WdmDmaAt((adapter), WDM_HERE), __VA_ARGS__)
+#define AllocateCommonBufferEx(adapter, ...) AllocateCommonBufferEx(WdmDmaAt((adapter), WDM_HERE), __VA_ARGS__)
+#define AllocateAdapterChannelEx(adapter, ...) AllocateAdapterChannelEx(WdmDmaAt((adapter), WDM_HERE), __VA_ARGS__)
+#define CancelAdapterChannel(adapter, ...) CancelAdapterChannel(WdmDmaAt((adapter), WDM_HERE), __VA_ARGS__)
+#define MapTransferEx(adapter, ...) MapTransferEx(WdmDmaAt((adapter), WDM_HERE), __VA_ARGS__)
+#define GetScatterGatherListEx(adapter, ...) GetScatterGatherListEx(WdmDmaAt((adapter), WDM_HERE), __VA_ARGS__)
+#define FlushAdapterBuffersEx(adapter, ...) FlushAdapterBuffersEx(WdmDmaAt((adapter), WDM_HERE), __VA_ARGS__)
+#define FreeAdapterObject(adapter, action) FreeAdapterObject(WdmDmaAt((adapter), WDM_HERE), (action))
 #define IoAllocateAdapterChannel(adapter, ...) (adapter)->DmaOperations->AllocateAdapterChannel((adapter), __VA_ARGS__)
 #define IoFlushAdapterBuffers(adapter, ...) (adapter)->DmaOperations->FlushAdapterBuffers((adapter), __VA_ARGS__)
 #define IoFreeAdapterChannel(adapter) (adapter)->DmaOperations->FreeAdapterChannel(adapter)

@@ -58,28 +58,52 @@ BOOLEAN KeAreApcsDisabled(VOID);
 #define KeGetCurrentProcessorNumber() 0u
 #define KeGetCurrentProcessorNumberEx(number) ((void)(number), 0u)
 NTSTATUS KeGetProcessorNumberFromIndex(ULONG Index, PPROCESSOR_NUMBER Number);
-#define KeSetSystemAffinityThread(affinity) ((void)(affinity))
-#define KeRevertToUserAffinityThread() ((void)0)
+KAFFINITY KeSetSystemAffinityThreadEx(KAFFINITY Affinity);
+VOID KeRevertToUserAffinityThreadEx(KAFFINITY Affinity);
+#define KeSetSystemAffinityThread(affinity) ((void)KeSetSystemAffinityThreadEx(affinity))
+#define KeRevertToUserAffinityThread() KeRevertToUserAffinityThreadEx(0)
 #define KeSetSystemGroupAffinityThread(affinity, before) ((void)(affinity), (void)(before))
 #define KeRevertToUserGroupAffinityThread(before) ((void)(before))
 ULONGLONG KeQueryInterruptTime(VOID);
 #define KeQueryUnbiasedInterruptTime KeQueryInterruptTime
 #define KeQuerySystemTimePrecise KeQuerySystemTime
+typedef struct _DEFERRED_REVERSE_BARRIER { ULONG Barrier, TotalProcessors; } DEFERRED_REVERSE_BARRIER,
+    *PDEFERRED_REVERSE_BARRIER;
+VOID WdmKeGenericCallDpc(PKDEFERRED_ROUTINE Routine, PVOID Context, WDM_SITE at);
+#define KeGenericCallDpc(routine, context) WdmKeGenericCallDpc((routine), (context), WDM_HERE)
+VOID KeSignalCallDpcDone(PVOID Count);
+LOGICAL KeSignalCallDpcSynchronize(PVOID Barrier);
+typedef VOID EXPAND_STACK_CALLOUT(PVOID Parameter);
+typedef EXPAND_STACK_CALLOUT *PEXPAND_STACK_CALLOUT;
+NTSTATUS KeExpandKernelStackAndCalloutEx(PEXPAND_STACK_CALLOUT Callout, PVOID Parameter, SIZE_T Size, BOOLEAN Wait, PVOID Context);
+#define KeExpandKernelStackAndCallout(callout, parameter, size) \
+    KeExpandKernelStackAndCalloutEx((callout), (parameter), (size), FALSE, NULL)
+#define WDM_BUILD 19045 /* of the last Windows 10 */
+BOOLEAN PsGetVersion(PULONG Major, PULONG Minor, PULONG Build, PUNICODE_STRING Pack);
 #define KeFlushIoBuffers(mdl, read, dma) ((void)(mdl), (void)(read), (void)(dma))
 
 /* Resources: shared by readers, or exclusive to one thread, which may take it again. */
+typedef struct _HOST_READER { PVOID Thread; LONG Count; } HOST_READER;
 typedef struct _ERESOURCE {
-    KEVENT Changed;
-    LONG Shared, Exclusive, Waiting;
-    PVOID Owner;
-    struct { PVOID Thread; LONG Count; } Readers[32];
+    union { LIST_ENTRY SystemResourcesList; struct { HOST_READER *HostReaders; LONG HostShared, HostExclusive; }; };
+    PVOID OwnerTable;
+    SHORT ActiveCount; /* how many have it */
+    USHORT Flag;
+    union { struct { PVOID SharedWaiters, ExclusiveWaiters, OwnerThread; }; KEVENT HostChanged; };
+    PVOID HostOwner;
+    ULONG ActiveEntries, ContentionCount, NumberOfSharedWaiters, NumberOfExclusiveWaiters;
+    PVOID Reserved2, Address;
+    KSPIN_LOCK SpinLock;
 } ERESOURCE, *PERESOURCE;
 NTSTATUS ExInitializeResourceLite(PERESOURCE Resource);
 NTSTATUS ExReinitializeResourceLite(PERESOURCE Resource);
 NTSTATUS WdmExDeleteResource(PERESOURCE Resource, WDM_SITE at);
 BOOLEAN WdmExAcquireResource(PERESOURCE Resource, BOOLEAN Exclusive, BOOLEAN Wait, WDM_SITE at);
 BOOLEAN WdmExAcquireStarving(PERESOURCE Resource, BOOLEAN Wait, WDM_SITE at);
+BOOLEAN WdmExAcquireYielding(PERESOURCE Resource, BOOLEAN Wait, WDM_SITE at);
 VOID WdmExReleaseResource(PERESOURCE Resource, WDM_SITE at);
+ULONG ExGetExclusiveWaiterCount(PERESOURCE Resource);
+ULONG ExGetSharedWaiterCount(PERESOURCE Resource);
 BOOLEAN ExIsResourceAcquiredExclusiveLite(PERESOURCE Resource);
 ULONG ExIsResourceAcquiredSharedLite(PERESOURCE Resource);
 VOID ExConvertExclusiveToSharedLite(PERESOURCE Resource);
@@ -88,6 +112,8 @@ VOID ExConvertExclusiveToSharedLite(PERESOURCE Resource);
 #define ExAcquireResourceSharedLite(resource, wait) WdmExAcquireResource((resource), FALSE, (BOOLEAN)(wait), WDM_HERE)
 #define ExAcquireSharedStarveExclusive(resource, wait) \
     WdmExAcquireStarving((resource), (BOOLEAN)(wait), WDM_HERE)
+#define ExAcquireSharedWaitForExclusive(resource, wait) \
+    WdmExAcquireYielding((resource), (BOOLEAN)(wait), WDM_HERE)
 #define ExTryToAcquireResourceExclusiveLite(resource) WdmExAcquireResource((resource), TRUE, FALSE, WDM_HERE)
 #define ExReleaseResourceLite(resource) WdmExReleaseResource((resource), WDM_HERE)
 #define ExReleaseResourceForThreadLite(resource, thread) ((void)(thread), WdmExReleaseResource((resource), WDM_HERE))
@@ -95,6 +121,8 @@ VOID ExConvertExclusiveToSharedLite(PERESOURCE Resource);
     (KeEnterCriticalRegion(), (void)ExAcquireResourceExclusiveLite((resource), TRUE))
 #define ExEnterCriticalRegionAndAcquireResourceShared(resource) \
     (KeEnterCriticalRegion(), (void)ExAcquireResourceSharedLite((resource), TRUE))
+#define ExEnterCriticalRegionAndAcquireSharedWaitForExclusive(resource) \
+    (KeEnterCriticalRegion(), (void)ExAcquireSharedWaitForExclusive((resource), TRUE))
 #define ExReleaseResourceAndLeaveCriticalRegion(resource) (ExReleaseResourceLite(resource), KeLeaveCriticalRegion())
 #define ExIsResourceAcquiredLite ExIsResourceAcquiredSharedLite
 #define ExGetCurrentResourceThread() ((ULONG_PTR)KeGetCurrentThread())
@@ -124,33 +152,56 @@ VOID ExRundownCompleted(PEX_RUNDOWN_REF Ref);
 #define ExReleaseRundownProtection(ref) WdmExReleaseRundownProtection((ref), WDM_HERE)
 #define ExWaitForRundownProtectionRelease(ref) WdmExWaitForRundown((ref), WDM_HERE)
 
+/* Singly linked lists: their types. */
+typedef struct _SLIST_ENTRY { struct _SLIST_ENTRY *Next; } SLIST_ENTRY, *PSLIST_ENTRY;
+typedef struct _SLIST_HEADER {
+    union {
+        struct { ULONGLONG Alignment, Region; };
+        struct { PSLIST_ENTRY First; ULONG Depth; };
+    };
+} SLIST_HEADER, *PSLIST_HEADER;
+
 /* Lookaside lists: each block comes from pool and goes back there. */
 typedef PVOID ALLOCATE_FUNCTION(POOL_TYPE Type, SIZE_T Bytes, ULONG Tag);
 typedef VOID FREE_FUNCTION(PVOID Block);
 typedef ALLOCATE_FUNCTION *PALLOCATE_FUNCTION;
 typedef FREE_FUNCTION *PFREE_FUNCTION;
 typedef struct _GENERAL_LOOKASIDE {
+    union { SLIST_HEADER ListHead; SINGLE_LIST_ENTRY SingleListHead; };
+    USHORT Depth, MaximumDepth;
+    ULONG TotalAllocates;
+    union { ULONG AllocateMisses, AllocateHits; };
+    ULONG TotalFrees;
+    union { ULONG FreeMisses, FreeHits; };
+    POOL_TYPE Type;
+    ULONG Tag, Size;
     PALLOCATE_FUNCTION Allocate;
     PFREE_FUNCTION Free;
-    POOL_TYPE Type;
-    ULONG Tag;
-    SIZE_T Bytes;
-} GENERAL_LOOKASIDE, NPAGED_LOOKASIDE_LIST, PAGED_LOOKASIDE_LIST, *PNPAGED_LOOKASIDE_LIST, *PPAGED_LOOKASIDE_LIST;
-#define WDM_LOOKASIDE(list, allocate, release, pool, bytes, tag) \
-    ((void)(*(list) = (GENERAL_LOOKASIDE){ (allocate), (release), (pool), (tag), (bytes) }))
+    LIST_ENTRY ListEntry;
+    ULONG LastTotalAllocates;
+    union { ULONG LastAllocateMisses, LastAllocateHits; };
+    ULONG Future[2], HostRest[8]; /* as large as in Windows, which aligns it to 64 bytes */
+} GENERAL_LOOKASIDE, *PGENERAL_LOOKASIDE;
+typedef struct _NPAGED_LOOKASIDE_LIST { GENERAL_LOOKASIDE L; } NPAGED_LOOKASIDE_LIST, *PNPAGED_LOOKASIDE_LIST;
+typedef struct _PAGED_LOOKASIDE_LIST { GENERAL_LOOKASIDE L; } PAGED_LOOKASIDE_LIST, *PPAGED_LOOKASIDE_LIST;
+#define LOOKASIDE_MINIMUM_BLOCK_SIZE sizeof(SLIST_ENTRY)
+#define POOL_NX_ALLOCATION 512
+#define WDM_LOOKASIDE(list, allocate, release, type, bytes, tag) \
+    ((void)((list)->L = (GENERAL_LOOKASIDE){ .Depth = 4, .MaximumDepth = 256, .Type = (POOL_TYPE)(type), .Tag = (tag), \
+                                             .Size = (ULONG)(bytes), .Allocate = (allocate), .Free = (release) }))
 #define ExInitializeNPagedLookasideList(list, allocate, release, flags, bytes, tag, depth) \
-    ((void)(flags), (void)(depth), WDM_LOOKASIDE(list, allocate, release, NonPagedPool, bytes, tag))
+    ((void)(depth), WDM_LOOKASIDE(list, allocate, release, NonPagedPool | (flags), bytes, tag))
 #define ExInitializePagedLookasideList(list, allocate, release, flags, bytes, tag, depth) \
-    ((void)(flags), (void)(depth), WDM_LOOKASIDE(list, allocate, release, PagedPool, bytes, tag))
+    ((void)(depth), WDM_LOOKASIDE(list, allocate, release, PagedPool | (flags), bytes, tag))
 #define ExAllocateFromNPagedLookasideList(list) \
-    ((list)->Allocate ? (list)->Allocate((list)->Type, (list)->Bytes, (list)->Tag) \
-                      : ExAllocatePoolWithTag((list)->Type, (list)->Bytes, (list)->Tag))
+    ((list)->L.Allocate ? (list)->L.Allocate((list)->L.Type, (list)->L.Size, (list)->L.Tag) \
+                        : ExAllocatePoolWithTag((list)->L.Type, (list)->L.Size, (list)->L.Tag))
 #define ExFreeToNPagedLookasideList(list, block) \
     do { \
-        if ((list)->Free) \
-            (list)->Free(block); \
+        if ((list)->L.Free) \
+            (list)->L.Free(block); \
         else \
-            ExFreePoolWithTag((block), (list)->Tag); \
+            ExFreePoolWithTag((block), (list)->L.Tag); \
     } while (0)
 #define ExDeleteNPagedLookasideList(list) ((void)(list))
 #define ExAllocateFromPagedLookasideList ExAllocateFromNPagedLookasideList
@@ -184,9 +235,7 @@ VOID WdmExDeleteList(PLOOKASIDE_LIST_EX List, BOOLEAN Deletes, WDM_SITE at);
 #define ExDeleteLookasideListEx(list) WdmExDeleteList((list), TRUE, WDM_HERE)
 #define ExFlushLookasideListEx(list) WdmExDeleteList((list), FALSE, WDM_HERE)
 
-/* Singly linked lists. */
-typedef struct _SLIST_ENTRY { struct _SLIST_ENTRY *Next; } SLIST_ENTRY, *PSLIST_ENTRY;
-typedef struct _SLIST_HEADER { PSLIST_ENTRY First; ULONG Depth; } SLIST_HEADER, *PSLIST_HEADER;
+/* .. and their calls. */
 VOID ExInitializeSListHead(PSLIST_HEADER Head);
 PSLIST_ENTRY WdmPushEntrySList(PSLIST_HEADER Head, PSLIST_ENTRY Entry);
 PSLIST_ENTRY WdmPopEntrySList(PSLIST_HEADER Head);

@@ -241,7 +241,12 @@ PIRP WdmIoCsqRemoveIrp(PIO_CSQ Csq, PIO_CSQ_IRP_CONTEXT Context, WDM_SITE at);
 #define IoCsqRemoveIrp(csq, context) WdmIoCsqRemoveIrp((csq), (context), WDM_HERE)
 
 /* Remove locks: in a device's extension. */
-typedef struct _IO_REMOVE_LOCK { int HostNumber; BOOLEAN HostBound; } IO_REMOVE_LOCK, *PIO_REMOVE_LOCK;
+typedef struct _IO_REMOVE_LOCK_COMMON_BLOCK {
+    BOOLEAN Removed, Reserved[3];
+    LONG IoCount; /* the acquisitions, and one until it is drained */
+    union { KEVENT RemoveEvent; struct { int HostNumber; BOOLEAN HostBound; }; };
+} IO_REMOVE_LOCK_COMMON_BLOCK;
+typedef struct _IO_REMOVE_LOCK { IO_REMOVE_LOCK_COMMON_BLOCK Common; } IO_REMOVE_LOCK, *PIO_REMOVE_LOCK;
 VOID WdmIoInitializeRemoveLock(PIO_REMOVE_LOCK Lock, WDM_SITE at);
 NTSTATUS WdmIoAcquireRemoveLock(PIO_REMOVE_LOCK Lock, PVOID Tag, WDM_SITE at);
 VOID WdmIoReleaseRemoveLock(PIO_REMOVE_LOCK Lock, PVOID Tag, WDM_SITE at);

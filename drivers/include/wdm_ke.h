@@ -99,7 +99,8 @@ VOID KeFlushQueuedDpcs(VOID);
 
 /* Spin locks and interrupt levels, which are checked. */
 typedef ULONG_PTR KSPIN_LOCK, *PKSPIN_LOCK;
-typedef struct _KLOCK_QUEUE_HANDLE { PKSPIN_LOCK Lock; KIRQL OldIrql; } KLOCK_QUEUE_HANDLE, *PKLOCK_QUEUE_HANDLE;
+typedef struct _KSPIN_LOCK_QUEUE { struct _KSPIN_LOCK_QUEUE *Next; PKSPIN_LOCK Lock; } KSPIN_LOCK_QUEUE, *PKSPIN_LOCK_QUEUE;
+typedef struct _KLOCK_QUEUE_HANDLE { KSPIN_LOCK_QUEUE LockQueue; KIRQL OldIrql; } KLOCK_QUEUE_HANDLE, *PKLOCK_QUEUE_HANDLE;
 VOID WdmKeInitializeSpinLock(PKSPIN_LOCK Lock, WDM_SITE at);
 #define KeInitializeSpinLock(lock) WdmKeInitializeSpinLock((lock), WDM_HERE)
 KIRQL WdmKeAcquireSpinLock(PKSPIN_LOCK Lock, WDM_SITE at);
@@ -112,8 +113,8 @@ VOID WdmKeReleaseSpinLockFromDpcLevel(PKSPIN_LOCK Lock, WDM_SITE at);
 #define KeAcquireSpinLockAtDpcLevel(lock) WdmKeAcquireSpinLockAtDpcLevel((lock), WDM_HERE)
 #define KeReleaseSpinLockFromDpcLevel(lock) WdmKeReleaseSpinLockFromDpcLevel((lock), WDM_HERE)
 #define KeAcquireInStackQueuedSpinLock(lock, handle) \
-    ((handle)->Lock = (lock), (void)((handle)->OldIrql = WdmKeAcquireSpinLock((lock), WDM_HERE)))
-#define KeReleaseInStackQueuedSpinLock(handle) WdmKeReleaseSpinLock((handle)->Lock, (handle)->OldIrql, WDM_HERE)
+    ((handle)->LockQueue.Lock = (lock), (void)((handle)->OldIrql = WdmKeAcquireSpinLock((lock), WDM_HERE)))
+#define KeReleaseInStackQueuedSpinLock(handle) WdmKeReleaseSpinLock((handle)->LockQueue.Lock, (handle)->OldIrql, WDM_HERE)
 KIRQL KeGetCurrentIrql(VOID);
 VOID WdmKeRaiseIrql(KIRQL New, PKIRQL Old, WDM_SITE at);
 VOID WdmKeLowerIrql(KIRQL Irql, WDM_SITE at);

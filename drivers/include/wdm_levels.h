@@ -10,6 +10,9 @@ VOID WdmAtLevel(const char *Name, WDM_SITE at);
 
 #define ZwCreateEvent(...) WDM_LOW(ZwCreateEvent, __VA_ARGS__)
 #define ZwOpenEvent(...) WDM_LOW(ZwOpenEvent, __VA_ARGS__)
+#define ZwCreateDirectoryObject(...) WDM_LOW(ZwCreateDirectoryObject, __VA_ARGS__)
+#define ZwOpenDirectoryObject(...) WDM_LOW(ZwOpenDirectoryObject, __VA_ARGS__)
+#define ObQueryNameString(...) WDM_LOW(ObQueryNameString, __VA_ARGS__)
 #define ZwOpenKey(...) WDM_LOW(ZwOpenKey, __VA_ARGS__)
 #define ZwCreateKey(...) WDM_LOW(ZwCreateKey, __VA_ARGS__)
 #define ZwQueryKey(...) WDM_LOW(ZwQueryKey, __VA_ARGS__)

@@ -1,4 +1,4 @@
-/* wdm_ob.h: objects and their references, handles, the registry (WdmSetRegistry fills it), events by name or handle,
+/* wdm_ob.h: objects, their references and names, handles, the registry (WdmSetRegistry fills it), events by name or handle,
    threads. Files and sections are refused, but for those that a test made. */
 #ifndef WDM_OB_H
 #define WDM_OB_H
@@ -59,6 +59,22 @@ NTSTATUS WdmZwClose(HANDLE Handle, WDM_SITE at);
 #define NtClose ZwClose
 #define ObCloseHandle(handle, mode) ((void)(mode), WdmZwClose((handle), WDM_HERE))
 NTSTATUS ZwMakeTemporaryObject(HANDLE Handle);
+#define DUPLICATE_CLOSE_SOURCE 1
+#define DUPLICATE_SAME_ACCESS 2
+#define DUPLICATE_SAME_ATTRIBUTES 4
+NTSTATUS WdmZwDuplicateObject(HANDLE Handle, PHANDLE Other, BOOLEAN Closes, WDM_SITE at);
+#define ZwDuplicateObject(from, handle, to, other, access, attributes, options) \
+    ((void)(from), (void)(to), (void)(access), (void)(attributes), \
+     WdmZwDuplicateObject((handle), (other), ((options) & DUPLICATE_CLOSE_SOURCE) != 0, WDM_HERE))
+
+/* What objects are called: devices, drivers, events, directories. Directories hold no names but their own. */
+typedef struct _OBJECT_NAME_INFORMATION { UNICODE_STRING Name; } OBJECT_NAME_INFORMATION, *POBJECT_NAME_INFORMATION;
+NTSTATUS ObQueryNameString(PVOID Object, POBJECT_NAME_INFORMATION Information, ULONG Length, PULONG Needed);
+POBJECT_TYPE ObGetObjectType(PVOID Object);
+NTSTATUS WdmObReferenceByName(PUNICODE_STRING Name, POBJECT_TYPE Type, PVOID *Object, WDM_SITE at);
+#define ObReferenceObjectByName(name, attributes, state, access, type, mode, parse, object) \
+    ((void)(attributes), (void)(state), (void)(access), (void)(mode), (void)(parse), \
+     WdmObReferenceByName((name), (type), (PVOID *)(object), WDM_HERE))
 
 /* Threads and processes: there is one process. */
 NTSTATUS WdmPsCreateSystemThread(PHANDLE Handle, PKSTART_ROUTINE Start, PVOID Context, WDM_SITE at);
@@ -70,8 +86,12 @@ PEPROCESS PsGetCurrentProcess(VOID);
 #define IoGetCurrentProcess PsGetCurrentProcess
 HANDLE PsGetCurrentThreadId(VOID);
 HANDLE PsGetThreadId(PETHREAD Thread);
+NTSTATUS WdmPsLookupThread(HANDLE Number, PETHREAD *Thread, WDM_SITE at);
+#define PsLookupThreadByThreadId(number, thread) WdmPsLookupThread((number), (thread), WDM_HERE)
+extern PEPROCESS PsInitialSystemProcess;
 #define PsGetCurrentProcessId() ((HANDLE)(ULONG_PTR)4)
 #define PsGetProcessId(process) ((void)(process), PsGetCurrentProcessId())
+#define PsGetThreadProcessId(thread) ((void)(thread), PsGetCurrentProcessId())
 BOOLEAN PsIsSystemThread(PETHREAD Thread);
 KPROCESSOR_MODE ExGetPreviousMode(VOID);
 #define ZwCurrentProcess() ((HANDLE)(LONG_PTR)-1)
@@ -213,6 +233,7 @@ NTSTATUS ZwMapViewOfSection(HANDLE Section, HANDLE Process, PVOID *Base, ULONG_P
                             ULONG Protection);
 NTSTATUS ZwUnmapViewOfSection(HANDLE Process, PVOID Base);
 NTSTATUS ZwCreateDirectoryObject(PHANDLE Directory, ACCESS_MASK Access, POBJECT_ATTRIBUTES Attributes);
+NTSTATUS ZwOpenDirectoryObject(PHANDLE Directory, ACCESS_MASK Access, POBJECT_ATTRIBUTES Attributes);
 
 /* Time. */
 typedef struct _TIME_FIELDS {

@@ -53,7 +53,13 @@ struct _DRIVER_OBJECT {
     const char *HostName;
     int HostNumber;
 };
-typedef struct _VPB { CSHORT Type, Size; USHORT Flags; PDEVICE_OBJECT DeviceObject, RealDevice; } VPB, *PVPB;
+typedef struct _VPB {
+    CSHORT Type, Size;
+    USHORT Flags, VolumeLabelLength;
+    PDEVICE_OBJECT DeviceObject, RealDevice;
+    ULONG SerialNumber, ReferenceCount;
+    WCHAR VolumeLabel[32];
+} VPB, *PVPB;
 struct _DEVICE_OBJECT {
     CSHORT Type;
     USHORT Size;

@@ -49,33 +49,38 @@ static NTSTATUS GetList(PMDL Mdl, ULONG Length, BOOLEAN ToDevice)
 }
 
 /* The adapter has five map registers: a list of four pages and then one of two, which waits; one of six never comes. */
-static VOID Wait(VOID)
+static VOID WaitFor(PMDL Four, PMDL Two)
 {
-    PMDL four = Describe(buffer, 4 * PAGE_SIZE), two = Describe(buffer + 100, PAGE_SIZE);
-    if (!four || !two)
-        return;
     n_lists = 0;
-    WDM_CHECK(registers == 5 && GetList(four, 4 * PAGE_SIZE, TRUE) == STATUS_SUCCESS && n_lists == 1);
-    WDM_CHECK(GetList(two, PAGE_SIZE, TRUE) == STATUS_SUCCESS && n_lists == 1);
+    if (!WDM_CHECK(registers == 5 && GetList(Four, 4 * PAGE_SIZE, TRUE) == STATUS_SUCCESS && n_lists == 1))
+        return;
+    const BOOLEAN waits = WDM_CHECK(GetList(Two, PAGE_SIZE, TRUE) == STATUS_SUCCESS && n_lists == 1);
     adapter->DmaOperations->PutScatterGatherList(adapter, lists[0], TRUE);
+    if (!waits)
+        return;
     WDM_CHECK(n_lists == 2 && lists[1]->NumberOfElements == 2 && lists[1]->Elements[0].Length == PAGE_SIZE - 100);
 #if WRONG != 2
     adapter->DmaOperations->PutScatterGatherList(adapter, lists[1], TRUE);
 #endif
-    IoFreeMdl(four);
-    IoFreeMdl(two);
+}
+
+static VOID Wait(VOID)
+{
+    PMDL four = Describe(buffer, 4 * PAGE_SIZE), two = Describe(buffer + 100, PAGE_SIZE);
+    if (four && two)
+        WaitFor(four, two);
+    if (four)
+        IoFreeMdl(four);
+    if (two)
+        IoFreeMdl(two);
 }
 
 /* Two MDLs that describe one transfer: what the device writes comes when the list is put back. */
-static VOID Chain(PDEVICE_OBJECT Pdo)
+static VOID ChainOf(PDEVICE_OBJECT Pdo, PMDL First)
 {
-    PMDL first = Describe(buffer + 10, 6), second = Describe(buffer + 50, 4);
-    if (!first || !second)
-        return;
-    memset(buffer, 0, 100);
-    first->Next = second;
     n_lists = 0;
-    WDM_CHECK(GetList(first, 10, FALSE) == STATUS_SUCCESS && n_lists == 1 && lists[0]->NumberOfElements == 2);
+    if (!WDM_CHECK(GetList(First, 10, FALSE) == STATUS_SUCCESS && n_lists == 1 && lists[0]->NumberOfElements == 2))
+        return;
     WDM_CHECK(lists[0]->Elements[0].Length == 6 && lists[0]->Elements[1].Length == 4);
     WDM_CHECK(WdmDmaWrite(Pdo, lists[0]->Elements[0].Address, "abcdef", 6));
     WDM_CHECK(WdmDmaWrite(Pdo, lists[0]->Elements[1].Address, "ghij", 4) && !buffer[10]);
@@ -87,9 +92,21 @@ static VOID Chain(PDEVICE_OBJECT Pdo)
 #else
     UNREFERENCED_PARAMETER(address);
 #endif
-    first->Next = NULL;
-    IoFreeMdl(first);
-    IoFreeMdl(second);
+}
+
+static VOID Chain(PDEVICE_OBJECT Pdo)
+{
+    PMDL first = Describe(buffer + 10, 6), second = Describe(buffer + 50, 4);
+    memset(buffer, 0, 100);
+    if (first && second) {
+        first->Next = second;
+        ChainOf(Pdo, first);
+        first->Next = NULL;
+    }
+    if (first)
+        IoFreeMdl(first);
+    if (second)
+        IoFreeMdl(second);
 }
 
 /* A list in the driver's own memory. */
@@ -108,10 +125,11 @@ static VOID Build(VOID)
     if (room) {
         WDM_CHECK(adapter->DmaOperations->BuildScatterGatherList(adapter, device, mdl, MmGetMdlVirtualAddress(mdl), 200, GotList,
                                                                  &n_lists, TRUE, room, size - 1) == STATUS_BUFFER_TOO_SMALL);
-        WDM_CHECK(adapter->DmaOperations->BuildScatterGatherList(adapter, device, mdl, MmGetMdlVirtualAddress(mdl), 200, GotList,
-                                                                 &n_lists, TRUE, room, size) == STATUS_SUCCESS);
-        WDM_CHECK(n_lists == 1 && lists[0] == room && lists[0]->Elements[0].Length == 96);
-        adapter->DmaOperations->PutScatterGatherList(adapter, room, TRUE);
+        if (WDM_CHECK(adapter->DmaOperations->BuildScatterGatherList(adapter, device, mdl, MmGetMdlVirtualAddress(mdl), 200,
+                                                                     GotList, &n_lists, TRUE, room, size) == STATUS_SUCCESS)) {
+            WDM_CHECK(n_lists == 1 && lists[0] == room && lists[0]->Elements[0].Length == 96);
+            adapter->DmaOperations->PutScatterGatherList(adapter, room, TRUE);
+        }
         ExFreePoolWithTag(room, 'tsil');
     }
     KeLowerIrql(irql);
@@ -119,40 +137,49 @@ static VOID Build(VOID)
 }
 
 /* One channel: who comes second gets it when the first one frees it. Without scatter-gather a transfer is one piece. */
-static VOID Channel(PDEVICE_OBJECT Pdo)
+static VOID UseChannel(PDEVICE_OBJECT Pdo, PMDL Mdl)
 {
-    KIRQL irql;
     ULONG length = PAGE_SIZE + 8;
     UCHAR got[4] = { 0 };
-    PMDL mdl = Describe(buffer, 2 * PAGE_SIZE);
     PDMA_OPERATIONS operations = slave->DmaOperations;
-    if (!mdl)
-        return;
     memcpy(buffer + PAGE_SIZE, "tail", 4);
     channels = 0;
-    KeRaiseIrql(DISPATCH_LEVEL, &irql);
     WDM_CHECK(operations->AllocateAdapterChannel(slave, device, 9, GotChannel, NULL) == STATUS_INSUFFICIENT_RESOURCES);
-    WDM_CHECK(operations->AllocateAdapterChannel(slave, device, 2, GotChannel, NULL) == STATUS_SUCCESS && channels == 1);
-    WDM_CHECK(operations->AllocateAdapterChannel(slave, device, 1, GotChannel, NULL) == STATUS_SUCCESS && channels == 1);
-    PHYSICAL_ADDRESS at = operations->MapTransfer(slave, mdl, base, buffer, &length, TRUE);
+    if (!WDM_CHECK(operations->AllocateAdapterChannel(slave, device, 2, GotChannel, NULL) == STATUS_SUCCESS && channels == 1))
+        return;
+    const BOOLEAN waits =
+        WDM_CHECK(operations->AllocateAdapterChannel(slave, device, 1, GotChannel, NULL) == STATUS_SUCCESS && channels == 1);
+    PHYSICAL_ADDRESS at = operations->MapTransfer(slave, Mdl, base, buffer, &length, TRUE);
     WDM_CHECK(length == PAGE_SIZE + 8);
     at.QuadPart += PAGE_SIZE;
     WDM_CHECK(WdmDmaRead(Pdo, at, got, 4) && !memcmp(got, "tail", 4));
 #if WRONG == 4
-    operations->FlushAdapterBuffers(slave, mdl, base, buffer, length + 1, TRUE); /* told 4: DmaBeyond */
+    operations->FlushAdapterBuffers(slave, Mdl, base, buffer, length + 1, TRUE); /* told 4: DmaBeyond */
 #else
-    operations->FlushAdapterBuffers(slave, mdl, base, buffer, length, TRUE);
+    operations->FlushAdapterBuffers(slave, Mdl, base, buffer, length, TRUE);
 #endif
     operations->FreeAdapterChannel(slave);
+    if (!waits)
+        return;
     WDM_CHECK(channels == 2);
     length = 1;
 #if WRONG == 5
-    operations->MapTransfer(slave, mdl, base, buffer, &length, TRUE);
+    operations->MapTransfer(slave, Mdl, base, buffer, &length, TRUE);
 #endif
     operations->FreeAdapterChannel(slave); /* told 5: DmaNotFlushed */
 #if WRONG == 6
     operations->FreeAdapterChannel(slave); /* told 6: DmaFreedTwice */
 #endif
+}
+
+static VOID Channel(PDEVICE_OBJECT Pdo)
+{
+    KIRQL irql;
+    PMDL mdl = Describe(buffer, 2 * PAGE_SIZE);
+    if (!mdl)
+        return;
+    KeRaiseIrql(DISPATCH_LEVEL, &irql);
+    UseChannel(Pdo, mdl);
     KeLowerIrql(irql);
     IoFreeMdl(mdl);
 }

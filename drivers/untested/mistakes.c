@@ -105,21 +105,31 @@ static NTSTATUS Wait(PEXTENSION Ext, PIRP Irp)
     return STATUS_PENDING;
 }
 
-static PIRP TakeWait(PEXTENSION Ext)
+/* Of a file, or of any. Where a cancel routine runs, that takes its wait out. */
+static PIRP TakeWait(PEXTENSION Ext, PFILE_OBJECT File)
 {
     PIRP irp = NULL;
     KIRQL irql;
     KeAcquireSpinLock(&Ext->Lock, &irql);
-    while (!irp && !IsListEmpty(&Ext->Waits)) {
-        PLIST_ENTRY entry = RemoveHeadList(&Ext->Waits);
+    for (PLIST_ENTRY entry = Ext->Waits.Flink; !irp && entry != &Ext->Waits; entry = entry->Flink) {
         irp = CONTAINING_RECORD(entry, IRP, Tail.Overlay.ListEntry);
-        if (IoSetCancelRoutine(irp, NULL) == NULL) { /* its cancel routine takes it out */
-            InitializeListHead(entry);
+        if ((File && IoGetCurrentIrpStackLocation(irp)->FileObject != File) || IoSetCancelRoutine(irp, NULL) == NULL)
             irp = NULL;
-        }
     }
+    if (irp)
+        RemoveEntryList(&irp->Tail.Overlay.ListEntry);
     KeReleaseSpinLock(&Ext->Lock, irql);
     return irp;
+}
+
+/* Forgets the waits of the file. */
+static NTSTATUS Cleanup(PDEVICE_OBJECT DeviceObject, PIRP Irp)
+{
+    const PEXTENSION ext = DeviceObject->DeviceExtension;
+    PIRP wait;
+    while (IS_RIGHT && (wait = TakeWait(ext, IoGetCurrentIrpStackLocation(Irp)->FileObject)) != NULL)
+        Complete(wait, STATUS_CANCELLED, 0);
+    return Pass(DeviceObject, Irp);
 }
 
 /* Takes any buffer for one of four bytes. */
@@ -177,7 +187,7 @@ static NTSTATUS Pnp(PDEVICE_OBJECT DeviceObject, PIRP Irp)
     if (minor == IRP_MN_START_DEVICE)
         return Start(ext, Irp);
     const BOOLEAN goes = minor == IRP_MN_REMOVE_DEVICE || minor == IRP_MN_SURPRISE_REMOVAL;
-    while (IS_RIGHT && goes && (wait = TakeWait(ext)) != NULL)
+    while (IS_RIGHT && goes && (wait = TakeWait(ext, NULL)) != NULL)
         Complete(wait, STATUS_DELETE_PENDING, 0);
     if (minor == IRP_MN_REMOVE_DEVICE && NT_SUCCESS(IoAcquireRemoveLock(&ext->Reads, Irp)))
         IoReleaseRemoveLockAndWait(&ext->Reads, Irp);
@@ -214,6 +224,7 @@ NTSTATUS DriverEntry(PDRIVER_OBJECT DriverObject, PUNICODE_STRING RegistryPath)
     DriverObject->MajorFunction[IRP_MJ_READ] = Read;
     DriverObject->MajorFunction[IRP_MJ_WRITE] = Write;
     DriverObject->MajorFunction[IRP_MJ_FLUSH_BUFFERS] = Flush;
+    DriverObject->MajorFunction[IRP_MJ_CLEANUP] = Cleanup;
     DriverObject->MajorFunction[IRP_MJ_DEVICE_CONTROL] = Control;
     DriverObject->MajorFunction[IRP_MJ_QUERY_VOLUME_INFORMATION] = Volume;
     DriverObject->MajorFunction[IRP_MJ_PNP] = Pnp;

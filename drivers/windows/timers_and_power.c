@@ -15,6 +15,7 @@ static VOID SetTimers(VOID)
     KeSetTimer(&again, due, NULL);
     KeInitializeTimer(&again);
     WDM_CHECK(KeWaitForSingleObject(&other, Executive, KernelMode, FALSE, &limit) == STATUS_SUCCESS);
+    WDM_CHECK(KeWaitForSingleObject(&again, Executive, KernelMode, FALSE, &limit) == STATUS_SUCCESS); /* it goes off all the same */
     KeSetTimer(&again, due, NULL);
     WDM_CHECK(KeWaitForSingleObject(&again, Executive, KernelMode, FALSE, &limit) == STATUS_SUCCESS);
 }

@@ -104,6 +104,8 @@ HINTS = [
     Hint("FAULT UsedInFreedMemory.*no work item", "Memory may be short. What do you have then instead of a work item, and which "
          "line notices?", '"System Worker Threads"', "If IoAllocateWorkItem returns NULL, complete the read with "
          "STATUS_INSUFFICIENT_RESOURCES."),
+    Hint("FAULT (WrongTag|NotPool|FreedTwice)", "Which line allocated this memory, how, and how often is it freed?",
+         '"ExFreePoolWithTag"', "Free it once, with the tag and the pointer of its allocation."),
     Hint("FAULT UsedInFreedMemory", "What you use there is gone already. Who freed it, and who still needed it?",
          '"Managing Memory for Drivers"', "Free it where nobody can use it any more."),
     Hint("FAULT (PnpStatusChanged|RemoveFailed)", "Who decides what becomes of this request, and which status may you change?",
@@ -186,7 +188,9 @@ HINTS_OF = {
          Hint(r"FAULT Check.*!answers_reads", "May the device answer reads in this state? Who told it to?",
               '"State Transitions for PnP Devices"', "Only a device that is started, that nobody asks to stop or go, and that is "
               "there, answers reads.")],
-    14: [Hint(r"FAULT (Check.*control|InformationTooLong|PoolOverrun)", "How long is the output that the caller can take, and which "
+    14: [Hint(r"outside of __try", "What does a probe do with a pointer that is bad, and who catches that?",
+              '"Using Neither Buffered Nor Direct I/O"', "Probe and copy inside one __try block."),
+         Hint(r"FAULT (Check.*control|InformationTooLong|PoolOverrun)", "How long is the output that the caller can take, and which "
               "of the two lengths says so?", '"Buffer Descriptions for I/O Control Codes"', "Compare with OutputBufferLength before "
               "you write, and set Information to what you wrote.")],
 }

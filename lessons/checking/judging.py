@@ -74,6 +74,30 @@ def code_of(path):
         return re.sub(r"/\*.*?\*/|//[^\n]*", "", it.read(), flags=re.DOTALL)
 
 
+def guarded(code):
+    """Returns the blocks behind __try, each as the places of its beginning and its end."""
+    found = []
+    for it in re.finditer(r"\b__try\s*\{", code):
+        depth, at = 1, it.end()
+        while depth and at < len(code):
+            depth += {"{": 1, "}": -1}.get(code[at], 0)
+            at += 1
+        found.append((it.end(), at))
+    return found
+
+
+def probes_outside(code):
+    """Whether a call that raises an exception for a bad pointer stands outside of __try, and nobody calls its function there."""
+    blocks = guarded(code)
+    inside = " ".join(code[low:high] for low, high in blocks)
+    for probe in re.finditer(r"\b(?:ProbeFor(?:Read|Write)|MmProbeAndLockPages)\s*\(", code):
+        before = re.findall(r"(?m)^[A-Za-z_][^\n;{}()]*\b(\w+)\([^;{}]*\)\s*\{", code[:probe.start()])
+        is_called = before and re.search(rf"\b{before[-1]}\s*\(", inside)
+        if not is_called and not any(low <= probe.start() < high for low, high in blocks):
+            return True
+    return False
+
+
 def is_met(way, text):
     """Returns whether a record has each text of a way, and none of those behind a "!"."""
     return all(bool(re.search(it.removeprefix("!"), text)) != it.startswith("!") for it in way)
@@ -129,6 +153,8 @@ class Judge:
             return "no work item answers the read any more."
         if self.number == 12 and "PoRequestPowerIrp" not in code:
             return "nobody asks for the device's packet any more."
+        if self.number == 14 and probes_outside(code):
+            return "a probe stands outside of __try."
         return None
 
     def judged(self):

@@ -1,5 +1,6 @@
 """What each lesson runs, and what the record of its plain run has to show."""
 
+import argparse
 import collections
 
 LESSONS = {1: "01_first_dispatch", 2: "02_pending", 3: "03_completion_routine", 4: "04_who_owns_the_packet",
@@ -8,6 +9,16 @@ LESSONS = {1: "01_first_dispatch", 2: "02_pending", 3: "03_completion_routine", 
            15: "15_a_protocol"}
 HISTORY, PROTOCOL = 10, 15
 FILES = {HISTORY: "history.transcript", PROTOCOL: "protocol.words"}
+
+
+def taken(text):
+    """Takes numbers of lessons, with commas between them, from a command's words."""
+    found = {int(it) if it.isdigit() else 0 for it in text.split(",")}
+    if not found <= set(LESSONS):
+        raise argparse.ArgumentTypeError(f"{text}: lessons from 1 to {max(LESSONS)} are wanted, such as 2,6")
+    return sorted(found)
+
+
 # A run: of the lesson's test.c or of the host's own test, with its flags.
 Run = collections.namedtuple("Run", "is_test flags")
 TESTS, HOSTS = Run(True, ()), Run(False, ())

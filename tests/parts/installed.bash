@@ -42,7 +42,7 @@ gives 4 'irp --help lists them' irp nothing
 
 # Drivers in C. The host is compiled into a folder of the user's.
 cp "$lessons/01_first_dispatch/driver.c" wrong.c
-cp "$lessons/01_first_dispatch/answer/driver.c" null.c
+sed 's/^    return STATUS_SUCCESS;$/    IoCompleteRequest(Irp, IO_NO_INCREMENT);\n&/' wrong.c >null.c
 gives 0 'clean: ' irp drive null.c
 gives 0 '' test -d "${XDG_CACHE_HOME:-$HOME/.cache}/irp"
 gives 1 'FAULT Lost: wrong.c:' irp drive --sarif wrong.sarif --page wrong.html wrong.c

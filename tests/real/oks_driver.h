@@ -14,31 +14,7 @@
 #ifndef IO_TYPE_DEVICE_QUEUE
 #define IO_TYPE_DEVICE_QUEUE 0x14
 #endif
+#ifndef PROCESS_QUERY_INFORMATION
+#define PROCESS_QUERY_INFORMATION 0x400
+#endif
 typedef struct { IO_REMOVE_LOCK lock; } IO_REMOVE_LOCK_COMMON_BLOCK;
-
-static void OksInitializeDpc(PKDPC dpc, PKDEFERRED_ROUTINE routine, void *context)
-{
-    KeInitializeDpc(dpc, routine, context);
-}
-
-static NTSTATUS OksAllocateExtension(PDRIVER_OBJECT driver, PVOID id, ULONG bytes, PVOID *extension)
-{
-    return IoAllocateDriverObjectExtension(driver, id, bytes, extension);
-}
-
-static PVOID OksGetExtension(PDRIVER_OBJECT driver, PVOID id) { return IoGetDriverObjectExtension(driver, id); }
-
-static void *OksProcAddress(const char *name)
-{
-    static const struct { const char *name; void *address; } known[] = {
-        { "KeInitializeDpc", (void *)OksInitializeDpc },
-        { "IoAllocateDriverObjectExtension", (void *)OksAllocateExtension },
-        { "IoGetDriverObjectExtension", (void *)OksGetExtension },
-    };
-    for (size_t i = 0; i < sizeof known / sizeof *known; i++)
-        if (!strcmp(name, known[i].name))
-            return known[i].address;
-    return !strcmp(name, "ExEventObjectType") ? (void *)&*ExEventObjectType :
-        !strcmp(name, "IoFileObjectType") ? (void *)&*IoFileObjectType :
-        !strcmp(name, "PsThreadType") ? (void *)&*PsThreadType : NULL;
-}

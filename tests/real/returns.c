@@ -48,7 +48,7 @@ int main(void)
                                          (NTSTATUS)0x8eadbeef, STATUS_NOT_IMPLEMENTED, (NTSTATUS)0xceadbeef };
     WdmMakeSection(L"\\BaseNamedObjects\\winetest_ntoskrnl_section", 4096);
     WdmMakeFile(L"\\??\\C:\\windows\\winetest_ntoskrnl_okfile");
-    PDEVICE_OBJECT lower = WdmLoadByName("driver_whole")->DeviceObject;
+    PDEVICE_OBJECT lower = WdmLoadByName("WineTestDriver")->DeviceObject;
     while (lower->NextDevice)
         lower = lower->NextDevice;
     PDEVICE_OBJECT top = IoGetAttachedDevice(lower);

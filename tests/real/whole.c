@@ -8,7 +8,7 @@ int main(void)
     WdmMakeSection(L"\\BaseNamedObjects\\winetest_ntoskrnl_section", 4096);
     WdmMakeFile(L"\\??\\C:\\windows\\winetest_ntoskrnl_okfile");
     WdmMakeFile(L"\\??\\C:\\windows\\winetest_ntoskrnl_file.tmp");
-    PDEVICE_OBJECT lower = WdmLoadByName("driver_whole")->DeviceObject;
+    PDEVICE_OBJECT lower = WdmLoadByName("WineTestDriver")->DeviceObject;
     while (lower->NextDevice)
         lower = lower->NextDevice;
     PDEVICE_OBJECT top = IoGetAttachedDevice(lower);

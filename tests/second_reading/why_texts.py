@@ -337,7 +337,7 @@ def why(text):
     try:
         header, entries = read_transcript(text)
     except BadLine as bad:
-        return 1, f'irp_view: transcript refused: line {bad.args[0]}\n'
+        return 1, f'irp: transcript refused: line {bad.args[0]}\n'
     wrong = explain(text)
     count = len(entries)
     lines = block_of(wrong) if wrong else [f"nothing is wrong: {count} {'entry' if count == 1 else 'entries'}, legal"]

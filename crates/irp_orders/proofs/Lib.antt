@@ -1,3 +1,4 @@
+mod CommandLine
 mod Grouping
 mod Pairing
 mod Programs

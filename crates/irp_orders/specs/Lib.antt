@@ -1,4 +1,5 @@
 pub mod Alike
+pub mod CommandLine
 pub mod Conditions
 pub mod Ending
 pub mod Exploring

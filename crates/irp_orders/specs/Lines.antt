@@ -8,7 +8,6 @@ use Rattle.irp_types.specs.declared.call.Call.{Call as CallOf}
 use Rattle.irp_types.specs.declared.call.Call.TheVariants as call
 use Rattle.irp_types.specs.declared.call.Party.{Party}
 use Rattle.irp_types.specs.declared.names.DeviceId.{DeviceId}
-use Rattle.irp_types.specs.declared.names.IrpRef.{IrpRef}
 use Rattle.irp_types.specs.declared.reply.Reply.{Reply}
 use Rattle.irp_transcript.specs.declared.word_line.WordLine.{WordLine}
 use Rattle.irp_names.specs.Calls.{call_name}

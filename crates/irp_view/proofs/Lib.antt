@@ -1,3 +1,4 @@
+pub mod CommandLine
 pub mod Drawn
 pub mod Gathered
 pub mod Judged
@@ -6,3 +7,4 @@ pub mod Pieces
 pub mod RefusedCalls
 pub mod Rows
 pub mod Said
+pub mod Spans

@@ -87,16 +87,16 @@ abbrev pub plain_line : Ending → List ℕ
 plain_line Done = codes ""
 plain_line (Refused line expected) = codes ""
 plain_line Wrong = codes ""
-plain_line NoMemory = codes "irp_view: out of memory"
+plain_line NoMemory = codes "irp: out of memory"
 plain_line OtherWords =
-    codes "irp_view: usage: irp_view why, text, page or packet SLOT USE, then [FILE]; see irp_view --help"
+    codes "irp: usage: irp why, text, page or packet SLOT USE, then [FILE]; see irp --help"
 plain_line (NoFile name reason) = codes ""
-plain_line Failed = codes "irp_view: input or output failed"
+plain_line Failed = codes "irp: input or output failed"
 
 -- the line for standard error, without its newline
 abbrev pub complaint_of : Ending → Option (List ℕ)
 complaint_of (Refused line expected) =
-    Some (codes "irp_view: transcript refused: line " ++ (decimal line ++ expected_text expected))
+    Some (codes "irp: transcript refused: line " ++ (decimal line ++ expected_text expected))
 complaint_of (NoFile name reason) =
-    Some (codes "irp_view: " ++ (string_bytes name ++ (codes ": can't be opened: " ++ reason_text reason)))
+    Some (codes "irp: " ++ (string_bytes name ++ (codes ": can't be opened: " ++ reason_text reason)))
 complaint_of ending = Some (plain_line ending)

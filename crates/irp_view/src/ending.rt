@@ -62,10 +62,10 @@ impl fmt::Display for Ending {
     fn fmt<W: fmt::Write>(&self, f: &mut fmt::Formatter<W>) -> fmt::Result {
         match self {
             Ending::Refused { line, expected } => {
-                write!(f, "irp_view: transcript refused: line {line}{expected}")
+                write!(f, "irp: transcript refused: line {line}{expected}")
             }
             Ending::NoFile { name, reason } => {
-                write!(f, "irp_view: {name}: can't be opened: {reason}")
+                write!(f, "irp: {name}: can't be opened: {reason}")
             }
             other => f.write_str(plain_line(other)),
         }
@@ -77,11 +77,11 @@ fn plain_line(ending: &Ending) -> &'static str
     ensures { result.now ≡ plain_line ending.now }
 {
     match ending {
-        Ending::NoMemory => "irp_view: out of memory",
+        Ending::NoMemory => "irp: out of memory",
         Ending::OtherWords => {
-            "irp_view: usage: irp_view why, text, page or packet SLOT USE, then [FILE]; see irp_view --help"
+            "irp: usage: irp why, text, page or packet SLOT USE, then [FILE]; see irp --help"
         }
-        Ending::Failed => "irp_view: input or output failed",
+        Ending::Failed => "irp: input or output failed",
         Ending::Done | Ending::Refused { .. } | Ending::Wrong | Ending::NoFile { .. } => "",
     }
 }

@@ -54,7 +54,7 @@ fn expected(path: &PathBuf, text: &str) -> Verdict {
         return Verdict::Legal(entries);
     };
     let illegal = number_behind(&said, "entry ").map(Verdict::Illegal);
-    let refused = number_behind(&said, "irp_view: transcript refused: line ").map(Verdict::Refused);
+    let refused = number_behind(&said, "irp: transcript refused: line ").map(Verdict::Refused);
     illegal.or(refused).unwrap_or(Verdict::Legal(entries))
 }
 
