@@ -40,7 +40,7 @@ static VOID Work(PEXTENSION ext)
     ExInitializeWorkItem(&ext->Plain, Plainly, ext);
     ExQueueWorkItem(&ext->Plain, DelayedWorkQueue);
 #if WRONG == 1
-    ExQueueWorkItem(&ext->Plain, DelayedWorkQueue); /* told 1: QueuedTwice */
+    ExQueueWorkItem(&ext->Plain, DelayedWorkQueue); /* told 1, by --every-order: QueuedTwice */
 #endif
     Await(ext);
     ExQueueWorkItem(&ext->Plain, DelayedWorkQueue); /* its routine has it no more */
