@@ -1,6 +1,7 @@
 """The cases of rules/: each breaks one rule of VERIFIER.md, is told at the line that says so, and is silent where it
 keeps the rule."""
 
+import itertools
 import os
 import re
 import shlex
@@ -21,6 +22,8 @@ NO_COMPLAINT = None
 # Drivers of unlucky/ that stand on each other, and the runs that tell the last one's mistakes. A plain run tells none
 # of them; where RIGHT is defined there are none. Each is told at its own line.
 UNLUCKY = [(["allocates"], "--verify"), (["answers", "asks"], "--force-pending"), (["keeps"], "--cancel-everywhere")]
+# More runs of a plan, where one doesn't tell a mistake: a pended packet ends after a moment, in which a thread may get no processor.
+TRIES = 4
 LENT = " ".join(f"stacks/lent/{it}.c" for it in ("transport", "client", "test"))
 PORTS = "--library stacks/ports/portclass.c stacks/ports/portmini.c stacks/ports/test.c"
 VERIFIED = ["samples",
@@ -104,13 +107,15 @@ def unlucky(bench, drivers, flag):
     said, status = ran(bench, *files)
     yield f"{name}: a plain run is clean", said[-600:] if status else None
     words = [flag, "--minutes", "30", "--processes", "1", "--args", " ".join(drivers), *files, f"{HERE}/unlucky/test.c"]
-    said, status = ran(bench, *words)
+    found, status = ran(bench, *words)
     for rule, place in marks(name):
-        told = re.search(rf"^host: (?:FAULT )?{rule}\b.*{re.escape(place)}\b.*\n(?:  (?:refused|cancelled) .*\n)?"
-                         r"  again with  run (.*)$", said, re.M)
-        again, ended = ran(bench, *shlex.split(told[1])) if told else ("", 0)
-        repeated = re.search(rf"^host: (?:FAULT )?{rule}\b.*{re.escape(place)}\b", again, re.M)
-        well = status == 1 and ended == 1 and repeated
+        tells = rf"^host: (?:FAULT )?{rule}\b.*{re.escape(place)}\b"
+        for said in itertools.chain([found], (ran(bench, *words)[0] for _ in range(TRIES))):
+            told = re.search(rf"{tells}.*\n(?:  (?:refused|cancelled) .*\n)?  again with  run (.*)$", said, re.M)
+            again, ended = ran(bench, *shlex.split(told[1])) if told else ("", 0)
+            well = status == 1 and ended == 1 and re.search(tells, again, re.M)
+            if well:
+                break
         yield f"{name}: {flag} tells {rule}, and how to repeat it", None if well else f"status {status}: {said} {again}"
     said, status = ran(bench, "--cflag=-DRIGHT", *words)
     yield f"{name}: {flag} is silent without the mistakes", said[-600:] if status else None

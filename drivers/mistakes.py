@@ -106,7 +106,7 @@ MISTAKES = [
     meter("its own control isn't waited for", "    if (status == STATUS_PENDING) {\n"
           "        KeWaitForSingleObject(&event", "    if (0) {\n        KeWaitForSingleObject(&event",
           "IoBuildDeviceIoControlRequest: the status block and the event are there until the packet's end",
-          "StackBlock", "in AskState", flags={"pend": "1"}),
+          "StackBlock", "in AskState", flags={"pend": "1", "scenario": "0x222400", "schedule": "usual"}),
     meter("two locks in two orders",
           "    KeQuerySystemTime(&now);\n    KeAcquireSpinLock(&ext->Lock, &irql);\n",
           "    KIRQL outer;\n    KeQuerySystemTime(&now);\n    KeAcquireSpinLock(&ext->StateLock, &outer);\n"

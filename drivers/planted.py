@@ -1,8 +1,8 @@
 """The faults that `test` plants, one at a time: an edit of a sample or of a stack, or a wrong shape, and what is told.
 
 `tells` is looked for in the first line that says FAULT: the rule, the function or the place, and the driver or device
-that is named. `verdict` is the word of `irpx check`; `refused` a refusal that the transcript has. A race is tried with
-eight seeds, until one shows it."""
+that is named. `verdict` is the word of `irpx check`; `refused` a refusal that the transcript has. Where time would decide
+what is told, every order with at most `by_order` preemptions is made, and the first one that fails is judged."""
 
 import os
 
@@ -10,10 +10,10 @@ SAMPLES, STACKS, SHAPES = "samples", "stacks", "shapes"
 
 
 class Fault:
-    def __init__(self, name, where, file, edits, tells, verdict="legal", refused=None, args="", is_race=False,
+    def __init__(self, name, where, file, edits, tells, verdict="legal", refused=None, args="", by_order=None,
                  settings=None):
         self.name, self.where, self.file, self.edits, self.tells = name, where, file, edits, tells
-        self.verdict, self.refused, self.args, self.is_race, self.settings = verdict, refused, args, is_race, settings
+        self.verdict, self.refused, self.args, self.by_order, self.settings = verdict, refused, args, by_order, settings
 
 
 def sample(name, file, edits, tells, **more):
@@ -91,7 +91,7 @@ FAULTS = [
            refused="NotDrained"),
     sample("marked after it was queued", "bus.c",
            [(MARK_AND_QUEUE, MARK_AND_QUEUE.replace(MARK, "") + MARK)],
-           ["D0 (bus)"], verdict=None, args="60", is_race=True),
+           ["D0 (bus)"], verdict=None, args="60", by_order=2),
     sample("completed with an error, success returned", "bus.c",
            [(WRITE_DONE, "    BusComplete(Irp, STATUS_UNSUCCESSFUL, 0);\n    return STATUS_SUCCESS;\n")],
            ["Status ", "BusWrite, dispatch for WRITE of D0 (bus)", "0xc0000001", "returned 0"], verdict="illegal"),
@@ -126,7 +126,7 @@ FAULTS = [
             "            IoCompleteRequest(irp, IO_NO_INCREMENT);\n"
             "            IoReleaseRemoveLock(&ext->RemoveLock, irp);\n        }\n    }")],
           ["CompletedTwice (0x44)", "removal.c:", "in Reader: IoCompleteRequest", "by D1 (removal)",
-           "completed before at common.h:"], refused="NotOwner"),
+           "completed before at common.h:"], refused="NotOwner", by_order=0),
     stack("a deferred call completes with the cancel routine set", "serial.c",
           [("        if (IoSetCancelRoutine(irp, NULL) != NULL) {", "        if (irp) {")],
           ["CancelRoutineSet (0x48)", "Sent, work of", "by D0 (serial)", "set before at serial.c:"],
@@ -135,7 +135,7 @@ FAULTS = [
           [("    IoCompleteRequest(irp, IO_NO_INCREMENT);\n", "    IoCompleteRequest(irp, IO_NO_INCREMENT);\n" * 2)],
           ["CompletedTwice (0x44)", "power.c:", "Ready, work of D1 (power)", "by D1 (power)",
            "completed before at power.c:"],
-          refused="Ended"),
+          refused="Ended", by_order=0),
     stack("a thread sends what isn't prepared", "retry.c",
           [("            SendDown(ext, CONTAINING_RECORD(e, IRP, Tail.Overlay.ListEntry));",
             "            IoCallDriver(ext->Lower, CONTAINING_RECORD(e, IRP, Tail.Overlay.ListEntry));")],
@@ -144,7 +144,7 @@ FAULTS = [
           [("    IoCancelIrp(w->Own);\n", "    IoFreeIrp(w->Own);\n"),
            ("&w->Timer, Milliseconds(1)", "&w->Timer, Milliseconds(0)")],
           ["InFlight ", "watchdog.c:", "TooLong", "IoFreeIrp", "sent before at watchdog.c:"], refused="InFlight",
-          is_race=True),
+          by_order=2),
     stack("a routine frees its caller's packet", "keyboard.c",
           [("    return Irp->IoStatus.Status;\n}", "    IoFreeIrp(Irp);\n    return STATUS_SUCCESS;\n}")],
           ["InFlight ", "keyboard.c:", "ReadDone, completion routine of D1 (keyboard)", "IoFreeIrp"], verdict=None,
@@ -180,7 +180,7 @@ FAULTS = [
             "        IoReleaseRemoveLock(&ext->RemoveLock, Irp);\n"),
            ("        KeSetEvent(&ext->Work, IO_NO_INCREMENT, FALSE);\n    Irp->", "        Pause(1);\n    Irp->")],
           ["InFlight ", "removal.c:", "Pnp, dispatch for PNP of D1 (removal)", "IoDeleteDevice", "D1 (removal)"],
-          verdict=None, refused="InFlight"),
+          verdict=None, refused="InFlight", by_order=0),
     stack("a resource is released twice", "shared.c",
           [("        ExReleaseResourceAndLeaveCriticalRegion(&ext->Resource);\n",
             "        ExReleaseResourceLite(&ext->Resource);\n"
@@ -237,20 +237,20 @@ FAULTS = [
           ["PoolLeak", "journal.c:", "in AllowAll: never freed"]),
     stack("own memory is freed while its packet is in flight", "reserve.c",
           [("    SendHalf(ext, Irp, own);\n", "    SendHalf(ext, Irp, own);\n    ExFreePool(own);\n")],
-          ["InFlight", "reserve.c:", "in Read", "ExFreePool", "sent before at reserve.c:"], refused="InFlight"),
+          ["InFlight", "reserve.c:", "in Read", "ExFreePool", "sent before at reserve.c:"], refused="InFlight", by_order=0),
     stack("a packet in own memory is freed by IoFreeIrp", "reserve.c", [("ExFreePoolWithTag(Irp, 'vseR');", "IoFreeIrp(Irp);")],
           ["NotAllocated", "reserve.c:", "in HalfDone", "IoFreeIrp", "(reserve) initialized it at reserve.c:",
            "ExFreePool"]),
     stack("a packet is initialized while it is in flight", "reserve.c",
           [("    SendHalf(ext, Irp, own);\n", "    SendHalf(ext, Irp, own);\n    IoInitializeIrp(own, IoSizeOfIrp(1), 1);\n")],
-          ["InFlight", "reserve.c:", "in Read", "IoInitializeIrp", "sent before at reserve.c:"], refused="InFlight"),
+          ["InFlight", "reserve.c:", "in Read", "IoInitializeIrp", "sent before at reserve.c:"], refused="InFlight", by_order=0),
     stack("a device is deleted with a packet in flight in its extension", "reserve.c",
           [("        IoDeleteDevice(DeviceObject);\n",
             "        static KEVENT done;\n        IoInitializeIrp(&ext->Spare.Irp, sizeof ext->Spare, 1);\n"
             "        IoGetNextIrpStackLocation(&ext->Spare.Irp)->MajorFunction = IRP_MJ_READ;\n"
             "        IoSetCompletionRoutine(&ext->Spare.Irp, FlushDone, &done, TRUE, TRUE, TRUE);\n"
             "        IoCallDriver(ext->Lower, &ext->Spare.Irp);\n        IoDeleteDevice(DeviceObject);\n")],
-          ["InFlight", "in Pnp", "IoDeleteDevice", "sent before at reserve.c:"], refused="InFlight"),
+          ["InFlight", "in Pnp", "IoDeleteDevice", "sent before at reserve.c:"], refused="InFlight", by_order=0),
     stack("a packet is initialized in too few bytes", "reserve.c",
           [("NonPagedPool, IoSizeOfIrp(ext->Lower->StackSize),", "NonPagedPool, sizeof(IRP),")],
           ["PacketMemory", "reserve.c:", "in SendHalf", "IoInitializeIrp", "allocate IoSizeOfIrp(StackSize) bytes"]),
@@ -267,16 +267,16 @@ FAULTS = [
     stack("a packet lies on the stack of what has returned", "reserve.c",
           [("    PIRP own = ExAllocatePoolWithTag(NonPagedPool, IoSizeOfIrp(ext->Lower->StackSize), 'vseR');\n",
             "    UCHAR room[1000];\n    PIRP own = (PIRP)room;\n")],
-          ["StackBlock", "reserve.c:", "in SendHalf", "IoInitializeIrp", "lies on the stack of Read"]),
+          ["StackBlock", "reserve.c:", "in SendHalf", "IoInitializeIrp", "lies on the stack of Read"], by_order=0),
     stack("what is cancelled stays in its device queue", "elevator.c",
           [("    KeRemoveEntryDeviceQueue(&ext->Queue, &Irp->Tail.Overlay.DeviceQueueEntry);\n    IoReleaseCancelSpinLock(Irp->",
             "    (void)ext;\n    IoReleaseCancelSpinLock(Irp->")],
-          ["NotOwner", "elevator.c:", "in Served", "IoSetCancelRoutine", "by D0 (elevator)"], refused="NotOwner", is_race=True),
+          ["CompletedTwice", "elevator.c:", "in Served", "by D0 (elevator)", "in CancelQueued"], refused="NotOwner", by_order=2),
     stack("a level that was raised isn't lowered", "elevator.c", [("    KeLowerIrql(irql);\n", "    (void)irql;\n")],
           ["IrqlReturn", "elevator.c:", "in Flush", "the level is raised here", "returns at DISPATCH_LEVEL"]),
     stack("a deferred call is made by hand, and stays queued", "elevator.c",
           [("    if (KeRemoveQueueDpc(&ext->Dpc))\n", "    if (ext->Current)\n")],
-          ["CompletedTwice", "elevator.c:", "in Served, called at elevator.c:", "completed before at common.h:"], is_race=True),
+          ["CompletedTwice", "elevator.c:", "in Served, called at elevator.c:", "completed before at common.h:"], by_order=2),
     stack("a fast mutex is released that nobody took", "monitor.c",
           [("!ExTryToAcquireFastMutex(&ext->Reporting)", "FALSE")],
           ["NotAcquired", "monitor.c:", "in Report", "ExReleaseFastMutex"]),
@@ -296,7 +296,7 @@ FAULTS = [
     stack("a cancel routine doesn't complete", "serial.c",
           [("    Complete(Irp, STATUS_CANCELLED, 0);\n}", "    (void)Irp;\n}")],
           ["CancelledAndHeld", "serial.c:57", "D0 (serial) still holds it", "its cancel routine has run",
-           "CancelQueued", "Sent at common.h:"], verdict=None, is_race=True),
+           "CancelQueued", "Sent at common.h:"], verdict=None, by_order=2),
     stack("a cancel routine keeps the cancel spin lock", "serial.c",
           [("    IoReleaseCancelSpinLock(Irp->CancelIrql);\n", "")],
           ["UnderSpinLock", "CancelQueued, cancel routine of D0 (serial)", "IoCompleteRequest",
@@ -307,7 +307,7 @@ FAULTS = [
     stack("a routine gives its packet away and continues", "retry.c",
           [("1, FALSE);\n    return STATUS_MORE_PROCESSING_REQUIRED;", "1, FALSE);\n    IoCompleteRequest(Irp, 0);\n"
             "    return STATUS_SUCCESS;")],
-          ["GivenAway", "ReadDone, completion routine of D1 (retry)"], verdict=None, is_race=True),
+          ["GivenAway", "ReadDone, completion routine of D1 (retry)"], verdict=None, by_order=2),
     shape("CompletesWhatItSent", ["CompletedTwice (0x44)", "wrong.c:", "by D2 (middle)",
                                   "completed before at lower.c:"],
           refused="Ended"),
@@ -324,7 +324,7 @@ FAULTS = [
     shape("MarksAndWaits", ["Returned ", "MiddleControl, dispatch for DEVICE_CONTROL of D2 (middle)",
                             "marked the packet pending in its routine"], verdict="illegal", ending=1),
     shape("InitializesInFlight", ["InFlight ", "wrong.c:", "IoInitializeIrp", "is initialized while it is in flight"],
-          verdict=None, ending=1),
+          verdict=None, ending=1, by_order=0),
     shape("WaitsForEver", ["Hang", "wrong.c:", "WaitsForEver",
                            "is in MiddleControl, dispatch for DEVICE_CONTROL of D2 (middle)",
                            "kept by NeverSignals"], verdict=None),
@@ -393,9 +393,12 @@ RIGHT_SHAPES = """
 FOR_OWN_TEST = ["handover", "keyboard", "children", "policy", "power", "removal", "split", "serial", "shared", "late",
                 "settings", "reserve"]
 
-# Drivers of hostile/ that the host stops after ten times its patience, or that have a whole test: they have more seconds.
-SLOW_TO_STOP = {"polls": 40, "arms_again": 40, "spins": 60, "forgets_after_paging": 60}
-# The drivers of hostile/: what is told of each, beside the transcript. Each ends within its bound, and none is clean.
+# Drivers of hostile/ that go on until their seconds are over, however few these are; all others have more than they want.
+ENDLESS = {"loops_without_end": 8, "prints_without_end": 8}
+LONGEST = 100
+# Of a thread that runs on the host tells where it is only if a processor comes to it within a moment: one of so many runs does.
+TRIES = {"spins": 10}
+# The drivers of hostile/: what is told of each, beside the transcript. None is clean.
 STOPPED = "STOPPED: "
 
 
@@ -469,7 +472,6 @@ HOSTILE = {
                      + " in Read; in Read, dispatch for READ of D0 (stops_itself)"],
     "ignores_crashes": [STOPPED + "it touches what is no memory at address 0, at " + at("ignores_crashes", "*nothing = 1")],
     "forks": [STOPPED + "a driver forks, and a second process would go on with the run, at " + at("forks", "fork();") + " in Read"],
-    # On a machine that has no processor for it, its time is over before it counts as a hang.
     "spins": [" in Spin", " runs on", "KeWaitForSingleObject at " + at("spins", "KeWaitForSingleObject"),
               "IRP 1.2 (READ), which is in Read"],
     "forgets_after_paging": ["FAULT NotDrained", "6 held: tag ", "in Pnp (dispatch for PNP), left by Pnp after IoCallDriver at "

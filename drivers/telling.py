@@ -56,7 +56,7 @@ def tests_of(misuses, cases):
     for case in misuses:
         found.setdefault(case, ("misuse", case))
     for fault in planted.FAULTS:
-        if not fault.is_race:
+        if not fault.by_order:
             found.setdefault(rule_of(fault.tells[0]), ("planted", fault))
     for name, flag, rule, _ in as_windows.FILES:
         found.setdefault(rule, ("windows", (name, flag)))

@@ -40,7 +40,7 @@ run() {
             IRP_ORDERS=$room/helping/irpx IRP_LIVE=$room/helping/irpx
         ;;
     esac
-    PATH=$path room=$room timeout 120 bash -o pipefail -c "$1" </dev/null >"$room/$2.out" 2>"$room/$2.err"
+    PATH=$path room=$room timeout 600 bash -o pipefail -c "$1" </dev/null >"$room/$2.out" 2>"$room/$2.err"
     echo $? >"$room/$2.status"
 }
 

@@ -127,14 +127,14 @@ def texts():
 
 def checked(irpx, file):
     """Returns what `irpx check` tells of a text."""
-    ran = subprocess.run([irpx, "check"], stdin=file, capture_output=True, text=True, timeout=60)
+    ran = subprocess.run([irpx, "check"], stdin=file, capture_output=True, text=True, timeout=600)
     said = ran.stdout + ran.stderr
     return said.removeprefix("irpx: transcript refused: ").rstrip("\n")
 
 
 def why(irp_view, file):
     """Returns what `irp_view why` tells of a text, in the words of `irpx check`."""
-    ran = subprocess.run([irp_view, "why"], stdin=file, capture_output=True, text=True, timeout=60)
+    ran = subprocess.run([irp_view, "why"], stdin=file, capture_output=True, text=True, timeout=600)
     for form, words in (
         (r"nothing is wrong: (\d+) entries, legal\n", "legal"),
         (r"entry (\d+)\b", "illegal"),

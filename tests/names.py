@@ -58,7 +58,7 @@ def main():
     wanted = calls()
     rows = [HEADER, *(entry(call, reply, at) for at, (call, reply, _) in enumerate(wanted))]
     text = "".join(json.dumps(it, sort_keys=True, separators=(",", ":")) + "\n" for it in rows)
-    made = subprocess.run([sys.argv[1], "text"], input=text, capture_output=True, text=True, check=False, timeout=100)
+    made = subprocess.run([sys.argv[1], "text"], input=text, capture_output=True, text=True, check=False, timeout=600)
     blocks = {}
     for line in made.stdout.splitlines():
         if line[:4].strip():
@@ -72,7 +72,7 @@ def main():
     if made.returncode:
         wrong += 1
         print(f"failed: names: exit status {made.returncode}: {made.stderr}")
-    told = subprocess.run([sys.argv[2], "tables"], capture_output=True, text=True, check=True, timeout=100).stdout
+    told = subprocess.run([sys.argv[2], "tables"], capture_output=True, text=True, check=True, timeout=600).stdout
     pairs = compare(json.loads(told))
     for table, (one, other) in pairs.items():
         if one != other:

@@ -12,7 +12,7 @@ wrong=0
 
 # The cards of the page that the words draw, a line each.
 cards() {
-    timeout 60 "$view" page "$@" | grep -oE '<li id="e[0-9]+">.*'
+    timeout 600 "$view" page "$@" | grep -oE '<li id="e[0-9]+">.*'
 }
 
 # Checks that the page drawn by the words from $3 on has $2 cards, each as it stands in the whole page $1.
@@ -39,7 +39,7 @@ for expected in pages/*.html; do
     name=$(basename "$expected" .html)
     transcript=$(find ../examples -path ../examples/why -prune -o -name "$name.transcript" -print)
     tried=$((tried + 1))
-    if ! (cd "$(dirname "$transcript")" && timeout 60 "$view" page "$name.transcript") \
+    if ! (cd "$(dirname "$transcript")" && timeout 600 "$view" page "$name.transcript") \
         >"$kept/$name.html" 2>"$kept/errors" || ! cmp -s "$expected" "$kept/$name.html"; then
         echo "failed: page $name"
         head -n 3 "$kept/errors"

@@ -32,7 +32,7 @@ check() {
     [ "$front" = "$2" ] || place=", column $((${#front} + 1))"
     case $3 in '"'*) place+=', ' ;; *) place+=': ' ;; esac
     wanted="irp: transcript refused: line $((lines + 1))$place$3"
-    got=$({ before "$1" && echo "${2/^/}"; } | timeout 60 "$irp_view" why 2>&1)
+    got=$({ before "$1" && echo "${2/^/}"; } | timeout 600 "$irp_view" why 2>&1)
     [ "$got" = "$wanted" ] && return
     wrong=$((wrong + 1))
     printf 'failed: refused lines: %s\n  expected %s\n  got      %s\n' "$2" "$wanted" "$got"

@@ -13,9 +13,9 @@ static VOID Thread(PVOID Context)
 static NTSTATUS Read(PDEVICE_OBJECT DeviceObject, PIRP Irp)
 {
     HANDLE thread;
-    LARGE_INTEGER moment = { .QuadPart = -1000000 };
+    LARGE_INTEGER minute = { .QuadPart = -600000000 };
     PsCreateSystemThread(&thread, THREAD_ALL_ACCESS, NULL, NULL, NULL, Thread, NULL);
-    KeDelayExecutionThread(KernelMode, FALSE, &moment);
+    KeDelayExecutionThread(KernelMode, FALSE, &minute);
     return Complete(Irp, STATUS_SUCCESS);
 }
 

@@ -3,7 +3,7 @@
 
 static KDPC dpcs[64];
 
-static VOID Deferred(PKDPC Dpc, PVOID Context, PVOID Argument1, PVOID Argument2) { KeStallExecutionProcessor(2000); }
+static VOID Deferred(PKDPC Dpc, PVOID Context, PVOID Argument1, PVOID Argument2) { KeStallExecutionProcessor(100000); }
 
 static NTSTATUS Read(PDEVICE_OBJECT DeviceObject, PIRP Irp) { return Complete(Irp, STATUS_SUCCESS); }
 
