@@ -51,8 +51,14 @@ bool is_moved_by_hand(Packet *p)
         irp->Tail.Overlay.CurrentStackLocation == raw_at(p, p->size) && strcmp(self.calls->name, "IoCallDriver");
 }
 
-/* The originator completes its packet at the location that it went to by hand: the routine that it set there runs. Returns
-   whether that is so. Under G. */
+static bool wants(const IO_STACK_LOCATION *l, const IRP *irp)
+{
+    const UCHAR met = NT_SUCCESS(irp->IoStatus.Status) ? SL_INVOKE_ON_SUCCESS : SL_INVOKE_ON_ERROR;
+    return l->CompletionRoutine && l->Control & (met | (irp->Cancel ? SL_INVOKE_ON_CANCEL : 0));
+}
+
+/* The originator completes its packet at the location that it went to by hand: the routine that it set there runs, where it
+   is for that. Returns whether that is so. Under G. */
 bool complete_unsent(Packet *p)
 {
     if (!is_with_originator(p) || !is_moved_by_hand(p))
@@ -62,7 +68,7 @@ bool complete_unsent(Packet *p)
     prepare_nothing(p);
     memset(raw_at(p, p->size), 0, sizeof l);
     NTSTATUS answer = STATUS_SUCCESS;
-    if (l.CompletionRoutine) {
+    if (wants(&l, p->irp)) {
         let_driver_run();
         answer = l.CompletionRoutine(NULL, p->irp, l.Context);
         driver_came_back();

@@ -6,7 +6,7 @@
 static NTSTATUS Read(PDEVICE_OBJECT DeviceObject, PIRP Irp) { return Pass(DeviceObject, Irp); }
 
 static LONG step, surprise_at, close_at, remove_at;
-static KEVENT is_open;
+static KEVENT is_open, is_surprised;
 
 static NTSTATUS WatchClose(PDEVICE_OBJECT DeviceObject, PIRP Irp)
 {
@@ -17,19 +17,23 @@ static NTSTATUS WatchClose(PDEVICE_OBJECT DeviceObject, PIRP Irp)
 static NTSTATUS WatchPnp(PDEVICE_OBJECT DeviceObject, PIRP Irp)
 {
     const UCHAR minor = IoGetCurrentIrpStackLocation(Irp)->MinorFunction;
-    if (minor == IRP_MN_SURPRISE_REMOVAL)
+    if (minor == IRP_MN_SURPRISE_REMOVAL) {
         surprise_at = InterlockedIncrement(&step);
+        KeSetEvent(&is_surprised, IO_NO_INCREMENT, FALSE);
+    }
     if (minor == IRP_MN_REMOVE_DEVICE)
         remove_at = InterlockedIncrement(&step);
     return Pnp(DeviceObject, Irp);
 }
 
+/* It closes its file a moment after the device was told that it is gone: a removal that doesn't wait would come before. */
 static VOID OpenForAWhile(PVOID Context)
 {
     PDEVICE_OBJECT top = Context;
     LARGE_INTEGER moment = { .QuadPart = -300000 };
     PFILE_OBJECT file = WdmOpenFile(top);
     KeSetEvent(&is_open, IO_NO_INCREMENT, FALSE);
+    KeWaitForSingleObject(&is_surprised, Executive, KernelMode, FALSE, NULL);
     KeDelayExecutionThread(KernelMode, FALSE, &moment);
     if (file)
         WdmCloseFile(file);
@@ -44,6 +48,7 @@ static VOID Remove(PDRIVER_OBJECT Driver, BOOLEAN ByAnother)
     WdmAddDevice(Driver, pdo);
     WdmPlugIn(pdo);
     KeInitializeEvent(&is_open, NotificationEvent, FALSE);
+    KeInitializeEvent(&is_surprised, NotificationEvent, FALSE);
     if (ByAnother) {
         PsCreateSystemThread(&thread, THREAD_ALL_ACCESS, NULL, NULL, NULL, OpenForAWhile, IoGetAttachedDevice(pdo));
         KeWaitForSingleObject(&is_open, Executive, KernelMode, FALSE, NULL);

@@ -1,7 +1,12 @@
 /* own_packets.c: what a driver may do with packets of its own: a location of its own, whose device its routine gets; an
-   asynchronous packet whose MDL or system buffer it frees; a cancel routine before any send; a location by hand. WRONG frees
-   the packet with the pages of its MDL still locked. */
+   asynchronous packet whose MDL or system buffer it frees; a cancel routine before any send; a location by hand. WRONG=1 frees
+   the packet with the pages of its MDL still locked, WRONG=2 sends one with a cancel routine, WRONG=3 completes one whose routine
+   doesn't keep it, WRONG=4 one whose routine isn't for what it is completed with. */
 #include "filter.h"
+
+#ifndef WRONG
+#define WRONG 0
+#endif
 
 typedef struct { PDEVICE_OBJECT Owner; KEVENT Done; UCHAR Data[16]; } COPY;
 static LONG cancels;
@@ -10,9 +15,8 @@ static VOID FreeBuffers(PIRP Own)
 {
     PMDL mdl = Own->MdlAddress;
     if (mdl) {
-#ifndef WRONG
-        MmUnlockPages(mdl);
-#endif
+        if (WRONG != 1)
+            MmUnlockPages(mdl);
         IoFreeMdl(mdl);
         Own->MdlAddress = NULL;
     } else if (Own->AssociatedIrp.SystemBuffer && (Own->Flags & IRP_DEALLOCATE_BUFFER))
@@ -44,7 +48,7 @@ static NTSTATUS KeepOwn(PDEVICE_OBJECT DeviceObject, PIRP Own, PVOID Context)
 {
     UNREFERENCED_PARAMETER(DeviceObject), UNREFERENCED_PARAMETER(Own);
     ++*(LONG *)Context;
-    return STATUS_MORE_PROCESSING_REQUIRED;
+    return WRONG == 3 ? STATUS_CONTINUE_COMPLETION : STATUS_MORE_PROCESSING_REQUIRED;
 }
 
 static VOID CancelOwn(PDEVICE_OBJECT DeviceObject, PIRP Own)
@@ -65,7 +69,7 @@ static VOID PlayWithOwn(VOID)
     IoSetCancelRoutine(own, CancelOwn);
     WDM_CHECK(IoCancelIrp(own) && own->Cancel);
     IoReuseIrp(own, STATUS_SUCCESS);
-    IoSetCompletionRoutine(own, KeepOwn, &kept, TRUE, TRUE, TRUE);
+    IoSetCompletionRoutine(own, KeepOwn, &kept, WRONG != 4, TRUE, TRUE);
     --own->CurrentLocation;
     --own->Tail.Overlay.CurrentStackLocation;
     IoCompleteRequest(own, IO_NO_INCREMENT);
@@ -98,6 +102,8 @@ static NTSTATUS SendOwn(PDEVICE_OBJECT DeviceObject, COPY *Made)
     KeInitializeEvent(&Made->Done, NotificationEvent, FALSE);
     IoGetNextIrpStackLocation(own)->MajorFunction = IRP_MJ_FLUSH_BUFFERS;
     IoSetCompletionRoutine(own, OwnDone, Made, TRUE, TRUE, TRUE);
+    if (WRONG == 2)
+        IoSetCancelRoutine(own, CancelOwn);
     IoCallDriver(LowerOf(DeviceObject), own);
     KeWaitForSingleObject(&Made->Done, Executive, KernelMode, FALSE, NULL);
     IoFreeIrp(own);

@@ -1,23 +1,55 @@
-/* timers_and_power.c: a timer is initialized anew while it is armed, and the others go off; a reader goes before who waits to
-   have a resource alone, where it asks for that; PoSetPowerState tells the state before; a bus tells the states of power; a stack
-   has limits. WRONG takes what PoSetPowerState returns for the new state. */
+/* timers_and_power.c: a timer is initialized anew while it is armed, and goes off all the same, as the others do; a reader goes
+   before who waits to have a resource alone, where it asks for that; PoSetPowerState tells the state before; a bus tells the
+   states of power; a stack has limits. WRONG=1 takes what PoSetPowerState returns for the new state, WRONG=2 frees a timer that
+   it has only initialized anew. */
 #include "filter.h"
 
+#ifndef WRONG
+#define WRONG 0
+#endif
+enum { MOMENT = 200000 }; /* 20 milliseconds */
+
 static NTSTATUS Read(PDEVICE_OBJECT DeviceObject, PIRP Irp) { return Pass(DeviceObject, Irp); }
+
+/* Both are set, and one is initialized before its time: where that has come meanwhile, once more. */
+static VOID SetBoth(PKTIMER Other, PKTIMER Again)
+{
+    LARGE_INTEGER due = { .QuadPart = -MOMENT };
+    ULONGLONG begun;
+    do {
+        begun = KeQueryInterruptTime();
+        KeSetTimer(Other, due, NULL);
+        KeSetTimer(Again, due, NULL);
+        KeInitializeTimer(Again);
+    } while (KeQueryInterruptTime() - begun >= MOMENT);
+}
 
 static VOID SetTimers(VOID)
 {
     KTIMER other, again;
-    LARGE_INTEGER due = { .QuadPart = -20000 }, limit = { .QuadPart = -20000000 };
+    LARGE_INTEGER due = { .QuadPart = -MOMENT };
     KeInitializeTimer(&other);
     KeInitializeTimer(&again);
-    KeSetTimer(&other, due, NULL);
+    SetBoth(&other, &again);
+    WDM_CHECK(KeWaitForSingleObject(&other, Executive, KernelMode, FALSE, NULL) == STATUS_SUCCESS);
+    WDM_CHECK(KeWaitForSingleObject(&again, Executive, KernelMode, FALSE, NULL) == STATUS_SUCCESS);
     KeSetTimer(&again, due, NULL);
-    KeInitializeTimer(&again);
-    WDM_CHECK(KeWaitForSingleObject(&other, Executive, KernelMode, FALSE, &limit) == STATUS_SUCCESS);
-    WDM_CHECK(KeWaitForSingleObject(&again, Executive, KernelMode, FALSE, &limit) == STATUS_SUCCESS); /* it goes off all the same */
-    KeSetTimer(&again, due, NULL);
-    WDM_CHECK(KeWaitForSingleObject(&again, Executive, KernelMode, FALSE, &limit) == STATUS_SUCCESS);
+    WDM_CHECK(KeWaitForSingleObject(&again, Executive, KernelMode, FALSE, NULL) == STATUS_SUCCESS);
+}
+
+static VOID FreeTimer(VOID)
+{
+    LARGE_INTEGER hour = { .QuadPart = -36000000000LL };
+    PKTIMER timer = ExAllocatePool2(POOL_FLAG_NON_PAGED, sizeof *timer, 'emit');
+    if (!timer)
+        return;
+    KeInitializeTimer(timer);
+    KeSetTimer(timer, hour, NULL);
+    if (WRONG == 2)
+        KeInitializeTimer(timer);
+    else
+        KeCancelTimer(timer);
+    ExFreePoolWithTag(timer, 'emit');
 }
 
 static VOID SetPower(PDEVICE_OBJECT Device)
@@ -25,11 +57,8 @@ static VOID SetPower(PDEVICE_OBJECT Device)
     POWER_STATE state = { .DeviceState = PowerDeviceD0 };
     WDM_CHECK(PoSetPowerState(Device, DevicePowerState, state).DeviceState == PowerDeviceUnspecified);
     state.DeviceState = PowerDeviceD3;
-#ifdef WRONG
-    WDM_CHECK(PoSetPowerState(Device, DevicePowerState, state).DeviceState == PowerDeviceD3);
-#else
-    WDM_CHECK(PoSetPowerState(Device, DevicePowerState, state).DeviceState == PowerDeviceD0);
-#endif
+    const DEVICE_POWER_STATE wanted = WRONG == 1 ? PowerDeviceD3 : PowerDeviceD0;
+    WDM_CHECK(PoSetPowerState(Device, DevicePowerState, state).DeviceState == wanted);
 }
 
 static VOID AskCapabilities(PDEVICE_OBJECT Top)
@@ -65,9 +94,10 @@ static VOID TakeAlone(PVOID Context)
 
 static VOID Starve(PVOID Context)
 {
-    LARGE_INTEGER pause = { .QuadPart = -200000 };
+    LARGE_INTEGER moment = { .QuadPart = -MOMENT };
     UNREFERENCED_PARAMETER(Context);
-    KeDelayExecutionThread(KernelMode, FALSE, &pause);
+    while (!ExGetExclusiveWaiterCount(&resource))
+        KeDelayExecutionThread(KernelMode, FALSE, &moment);
     KeEnterCriticalRegion();
     WDM_CHECK(!ExAcquireResourceSharedLite(&resource, FALSE));
     WDM_CHECK(ExAcquireSharedStarveExclusive(&resource, FALSE));
@@ -105,6 +135,7 @@ int main(void)
     ULONG_PTR low, high;
     PDEVICE_OBJECT pdo = StartFilter(WDM_BOTTOM_LATE);
     SetTimers();
+    FreeTimer();
     SetPower(IoGetAttachedDevice(pdo));
     AskCapabilities(IoGetAttachedDevice(pdo));
     ShareIt();
