@@ -10,7 +10,8 @@ STATUS = r"\bstatus(?:es)?|returned|returns|return|with|gets|ended with"
 # What says how the mistake is mended: the lesson asks for that.
 REMEDIES = [r"\.? Remedy: .*?(?= \[before|$)",
             r" \((?!0x|rules? |memory freed|somebody|used |its use|nobody)[^()]*(?:\([^()]*\)[^()]*)*\)(?=: \S+\.c:)",
-            r"[:;,] (?:call|set|take|use|give|complete|mark) (?=\w+)[^\[]*(?= \[before)", r" \(rules? [^()]*\)", r" \(no stop code\)"]
+            r"[:;,] (?:call|set|take|use|give|free|complete|mark) (?=\w+)[^\[]*(?= \[before)", r"\. if \(Irp->Cancel .*?complete it",
+            r" \(rules? [^()]*\)", r" \(no stop code\)"]
 
 
 @functools.lru_cache(maxsize=None)

@@ -1,5 +1,5 @@
 """Writes notes for teachers: of each lesson its answer, why that is right, each question with its page and remedy, and wrong
-answers that students hand in; and what the examination's three tasks want. No package for students has this."""
+answers that students hand in; what each week's question wants, and the examination's tasks. No package for students has this."""
 
 import difflib
 import html
@@ -20,6 +20,20 @@ EXAMINATION = (
     "IoReleaseRemoveLockAndWait, since that waits for them.",
     "As the answer of lesson 9 says: the cancel comes between the two lines that lesson 9 asks for. Let students write one line a "
     "step, and the packet's owner beside each.",
+)
+# What each week of COURSE.md asks in the class, week by week.
+ASKED = (
+    "Whoever sent the packet waits, for an event that the end of its way up sets. Only IoCompleteRequest leads there.",
+    "The I/O manager: on the way up it copies each location's mark into PendingReturned, which the routine above reads, and at the "
+    "top itself.",
+    "The driver's below, whatever the call returned. It comes back where your routine returns STATUS_MORE_PROCESSING_REQUIRED.",
+    "Those below start first. On a removal those above stop first.",
+    "Before the dispatch runs, and between any two of its lines.",
+    "No request of its own that waits: IRP_MJ_CLEANUP ends these. The file stays while others have a reference, until IRP_MJ_CLOSE.",
+    "Each acquire that succeeded has been released: no request is under way any more.",
+    "Nobody, unless the wait's time is zero: nothing else would run on that processor.",
+    "One with more preemptions than the bound, or in which threads change places between two accesses that don't race.",
+    "What happens in an order, or for an input, that it didn't run.",
 )
 STYLE = """body { font: 16px/1.45 sans-serif; max-width: 60em; margin: 2em auto; padding: 0 1em; }
 pre { background: #f4f4f4; padding: .6em; overflow: auto; font-size: 13px; }
@@ -53,7 +67,8 @@ def of_lesson(number):
 
 def page():
     """Returns the page."""
-    tasks = "".join(f"<li>{html.escape(it)}</li>" for it in EXAMINATION)
+    tasks, weeks = ("".join(f"<li>{html.escape(it)}</li>" for it in its) for its in (EXAMINATION, ASKED))
     return ('<!DOCTYPE html>\n<html lang="en"><head><meta charset="utf-8"><title>Notes for teachers</title>'
-            f"<style>{STYLE}</style></head>\n<body><h1>Notes for teachers</h1>\n<h2>The examination of COURSE.md</h2><ol>{tasks}</ol>\n"
+            f"<style>{STYLE}</style></head>\n<body><h1>Notes for teachers</h1>\n<h2>What COURSE.md asks, week by week</h2><ol>{weeks}</ol>\n"
+            f"<h2>The examination of COURSE.md</h2><ol>{tasks}</ol>\n"
             + "\n".join(map(of_lesson, sorted(plans.LESSONS))) + "\n</body></html>\n")
