@@ -14,7 +14,8 @@ HEADERS = "/usr/x86_64-w64-mingw32/include/ddk"
 RECORDER = sorted(f"{DRIVERS}/recorder/{name}" for name in os.listdir(DRIVERS + "/recorder") if name.endswith(".c"))
 # The tests of the host: each has a `main`, or serves one.
 OWN_TESTS = ("exercise.c", "holding.c", "restored.c", "requests.c", "overlaps.c", "named_tests.c")
-SCENARIOS = [HERE + "/scenarios.c", HERE + "/probe.c"]
+RUNNER = [HERE + "/on_its_own.c"]
+SCENARIOS = [*RUNNER, HERE + "/scenarios.c", HERE + "/probe.c"]
 
 
 class Failed(Exception):
@@ -106,9 +107,11 @@ def by_the_page(folder):
     """Builds test.exe by the page's first command as it stands there, of a driver and a test. Returns its path."""
     os.makedirs(folder)
     os.symlink(DRIVERS, folder + "/drivers")
-    for name, source in (("mydriver.c", "probe.c"), ("test.c", "scenarios.c"), ("probe.h", "probe.h"),
-                         ("ending.h", "ending.h")):
-        os.symlink(f"{HERE}/{source}", f"{folder}/{name}")
+    os.symlink(HERE + "/probe.c", folder + "/mydriver.c")
+    for name in ("probe.h", "scenarios.h", "ending.h", "scenarios.c", "on_its_own.c"):
+        os.symlink(f"{HERE}/{name}", f"{folder}/{name}")
+    with open(folder + "/test.c", "w", encoding="utf-8") as it:
+        it.write('#include "scenarios.c"\n#include "on_its_own.c"\n')
     call(["sh", "-c", f"cd {folder} && {page_commands()[0]}"])
     return folder + "/test.exe"
 

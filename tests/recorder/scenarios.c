@@ -1,12 +1,6 @@
-/* scenarios.c: `scenarios NAME` runs one scenario and writes its transcript to standard output, also where it crashes.
-   `scenarios` names them all. expected.py has what each must give. */
-#include "probe.h"
-#include "ending.h"
-#ifdef WDM_IO_H
-#include "wdm_test.h"
-#else
-NTSTATUS NTAPI IoCreateDriver(UNICODE_STRING *Name, PDRIVER_INITIALIZE Entry);
-#endif
+/* scenarios.c: what the recorder is tried with: small stacks of probes, right and wrong ones. expected.py has what each must
+   give. Whoever runs them (on_its_own.c, and windows/scenarios.c as a driver) loads the drivers. */
+#include "scenarios.h"
 
 static PDEVICE_OBJECT d[3];
 static PPROBE x[3];
@@ -20,37 +14,14 @@ static NTSTATUS NTAPI KeepForMe(PDEVICE_OBJECT DeviceObject, PIRP Irp, PVOID Con
     return STATUS_MORE_PROCESSING_REQUIRED;
 }
 
-#ifdef WDM_IO_H
-static PDRIVER_OBJECT load(int i)
-{
-    static const char *const names[] = { "p0", "p1", "p2" };
-    return WdmLoadDriver(names[i], ProbeDriverEntry);
-}
-#else
-static PDRIVER_OBJECT loaded;
-static NTSTATUS NTAPI entry(PDRIVER_OBJECT DriverObject, PUNICODE_STRING RegistryPath)
-{
-    return ProbeDriverEntry(loaded = DriverObject, RegistryPath);
-}
-
-static PDRIVER_OBJECT load(int i)
-{
-    static WCHAR names[3][16] = { L"\\Driver\\P0", L"\\Driver\\P1", L"\\Driver\\P2" };
-    UNICODE_STRING name = { 20, 22, names[i] };
-    return IoCreateDriver(&name, entry) ? NULL : loaded;
-}
-#endif
-
 /* Devices of as many drivers, one on the other. */
 static void stack(int n)
 {
     for (int i = 0; i < n; i++) {
-        PDRIVER_OBJECT driver = load(i);
+        PDRIVER_OBJECT driver = ScenarioDriver((unsigned)i);
         d[i] = driver ? ProbeAddDevice(driver, i ? d[i - 1] : NULL) : NULL;
-        if (!d[i]) {
-            fprintf(stderr, "driver %d can't be loaded\n", i);
-            exit(2);
-        }
+        if (!d[i])
+            ScenarioStops((unsigned)i);
         x[i] = d[i]->DeviceExtension;
     }
 }
@@ -256,7 +227,7 @@ static void not_prepared(void)
 static void too_short(void) { stack_forwarding(2, NO_ROUTINE); send_major(1, IRP_MJ_READ, 1); done(); }
 
 #define SCENARIO(name) { #name, name }
-static const struct { const char *name; void (*run)(void); } scenarios[] = {
+const SCENARIO Scenarios[] = {
     SCENARIO(finish), SCENARIO(finish_not_kept), SCENARIO(three), SCENARIO(three_error), SCENARIO(three_held),
     SCENARIO(mend_on_error), SCENARIO(mend_on_success), SCENARIO(informational), SCENARIO(informational_on_error),
     SCENARIO(pending_bit), SCENARIO(pending_bit_top), SCENARIO(held_below_skips), SCENARIO(cancel_finishes),
@@ -266,6 +237,7 @@ static const struct { const char *name; void (*run)(void); } scenarios[] = {
     SCENARIO(no_dispatch), SCENARIO(forgets_mark), SCENARIO(unmarked), SCENARIO(skip_routine), SCENARIO(bad_status),
     SCENARIO(delete_in_flight), SCENARIO(not_prepared), SCENARIO(too_short),
 };
+const unsigned ScenarioCount = sizeof Scenarios / sizeof *Scenarios;
 
 static void take_down(void)
 {
@@ -277,30 +249,12 @@ static void take_down(void)
     IoDeleteDevice(d[0]);
 }
 
-/* Gives the record back. Returns the exit status: 5 where not all memory is given back. */
-static int forget(void)
+void ScenarioRun(unsigned number)
 {
-    IrpxForget();
-#ifdef COUNTED
-    extern long counted_pieces;
-    return counted_pieces ? 5 : 0;
-#else
-    return 0;
-#endif
-}
-
-int main(int argc, char **argv)
-{
-    for (size_t i = 0; i < sizeof scenarios / sizeof *scenarios; i++)
-        if (argc < 2)
-            puts(scenarios[i].name);
-        else if (!strcmp(scenarios[i].name, argv[1])) {
-            begin_to_watch();
-            scenarios[i].run();
-            if (scenarios[i].run != delete_in_flight)
-                take_down();
-            write_transcript();
-            _Exit(forget()); /* the host would tell that nobody called WdmFinish */
-        }
-    return argc < 2 ? 0 : 2;
+    for (int i = 0; i < 3; i++)
+        d[i] = NULL;
+    irpx_options.pend = FALSE;
+    Scenarios[number].run();
+    if (Scenarios[number].run != delete_in_flight)
+        take_down();
 }

@@ -158,12 +158,12 @@ def try_stacks(bench, host, recorder):
             bench.count("recorded stacks", name, wrong)
 
 
-def try_memory(bench, probe, host):
+def try_memory(bench, scenarios, host):
     """All memory comes back; where some is missing, the transcript ends before that."""
     counting = building.recorder_objects(bench.room + "/counting", ['-DIRPX_PLATFORM="counting.h"'])
-    counted = building.compile_all(building.SCENARIOS[:1], bench.room + "/counted",
+    counted = building.compile_all(building.RUNNER, bench.room + "/counted",
                                    ["cc", *building.STRICT, *building.HOST_FLAGS, "-DCOUNTED"])
-    program = building.link(counted + probe + host + counting, bench.room + "/counting/scenarios")
+    program = building.link(counted + scenarios + host + counting, bench.room + "/counting/scenarios")
     for name in ("three_held", "cancel_leaves", "own_packet"):
         verdict, status = bench.run([program, name])
         bench.count("recorder's memory", name, status and f"exit status {status}: not all came back ({verdict})")
@@ -228,7 +228,7 @@ def main():
             try_threads(bench, host, recorder)
             try_at_once(bench, host, recorder)
             try_stacks(bench, host, recorder)
-            try_memory(bench, scenarios[1:], host)
+            try_memory(bench, scenarios[len(building.RUNNER):], host)
             try_compilers(bench)
         except building.Failed as why:
             print(f"recorder: {why}")
