@@ -10,7 +10,7 @@ MOST_CODES = 200
 NUMBER = re.compile(r"\b0[xX][0-9a-fA-F]{5,8}\b")
 MARK = "wdm_ctl_code"
 MARKED = f"#include <wdm.h>\n#undef CTL_CODE\n#define CTL_CODE(device, function, method, access) {MARK}(device, function, method, access)\n"
-NAMED = r"([A-Za-z_]\w*(?:\([^()]*\))?)"  # a macro or an enum's constant, or a macro with its arguments
+NAMED = r"((?!STATUS_)[A-Za-z_]\w*(?:\([^()]*\))?)"  # a macro or an enum's constant, or a macro with its arguments
 TIMES = 4  # that a source is compiled at most: each time without what isn't constant
 
 

@@ -69,9 +69,15 @@ class Exploration:
             self.keep(words, report, made, began)
 
     def explored(self, tells=False):
-        """Makes every order of a piece. A failure that doesn't come again along its schedule is looked for by forks."""
-        options = self.options
+        """Makes every order of a piece; again where that finds other lines that race and change what they read. A failure
+        that doesn't come again along its schedule is looked for by forks."""
+        options, began = self.options, time.monotonic()
         report = orders.explore(options, self.program, self.folder, self.settings_of(options), tells=tells)
+        updates = orders.updates(self.program, report.racy_places())
+        if "schedule" not in report.facts and updates != options.settings.get("WDM_UPDATES", ""):
+            options.settings["WDM_UPDATES"] = updates
+            options.minutes = max(options.minutes - (time.monotonic() - began) / 60, LEAST_MINUTES)
+            report = orders.explore(options, self.program, self.folder, self.settings_of(options))
         schedule = report.facts.get("schedule")
         if not schedule or "forks" in report.facts or fails(self.followed(schedule)):
             return report

@@ -5,6 +5,7 @@ is made shorter and run again, distinct transcripts are judged, and all is told.
 
 import concurrent.futures
 import functools
+import linecache
 import math
 import os
 import re
@@ -14,6 +15,7 @@ import sys
 import tempfile
 
 import covering
+import places
 import snapshots
 
 RENAMED = ["pthread_create", "pthread_join", "pthread_detach", "pthread_self", "pthread_exit", "pthread_mutex_lock",
@@ -39,6 +41,8 @@ MEANWHILE = {"cancel": "cancelled", "cleanup": "while its file is closed, and an
              "power": "while power goes and comes"}
 QUICKLY = 1  # preemptions of the first round of pieces, by which they are sorted
 JUDGED_OF_A_PIECE = 6  # distinct transcripts
+LONG = {"long": "a long read"}  # which a driver may split
+CHANGES = re.compile(r"\+\+|--|[-+*/%&|^]=(?!=)|<<=|>>=")  # what it reads
 
 
 class Piece:
@@ -47,6 +51,7 @@ class Piece:
     def __init__(self, scenario, names):
         self.scenario = scenario
         what, _, other = scenario.partition("+")
+        names = {**names, **LONG}
         self.name = names.get(what, what)
         if other in MEANWHILE:
             self.name += f", {MEANWHILE[other]}"
@@ -84,7 +89,7 @@ def tell_piece(piece):
 
 def is_scenario(text):
     """Returns the text where it names a piece of the host's own test."""
-    sent = r"(read|write|0x[0-9a-f]+)"
+    sent = r"(read|write|long|0x[0-9a-f]+)"
     if text in SCENARIOS or re.fullmatch(rf"{sent}(\+({sent}|{'|'.join(MEANWHILE)}))?", text):
         return text
     raise ValueError(text)
@@ -95,7 +100,7 @@ def pieces_of(codes, names):
     with what happens meanwhile. `names`: of the codes."""
     sent = ["read", "write", *codes]
     pairs = [f"{what}+{other}" for at, what in enumerate(sent) for other in sent[at:]]
-    pairs += [f"{what}+{other}" for what in sent for other in MEANWHILE]
+    pairs += [f"{what}+{other}" for what in sent for other in MEANWHILE] + ["long+long", "long+write", "long+cancel"]
     return [Piece(it, names) for it in [*codes, *pairs] if it not in ("read+write", "read+cancel", "read+power")]
 
 
@@ -140,6 +145,10 @@ class Report:
         elif not self.covered.take(key, rest):
             self.facts[key] = rest
 
+    def racy_places(self):
+        """Returns the places that race, as a schedule names them."""
+        return [int(re.match(r"\+(0x[0-9a-f]+)", it)[1], 16) + 1 for it in self.racy]
+
     def finished(self):
         """Returns the rounds that count: those behind the last start."""
         last = max((at for at, it in enumerate(self.rounds) if it["bound"] == 0), default=0)
@@ -158,6 +167,22 @@ def settings_of(options, seed=None):
     elif seed is not None:
         made["WDM_CHANCE"] = str(seed)
     return made
+
+
+def racy_in(schedule):
+    """Returns the places that race which a schedule names."""
+    places_of = schedule.partition(",")[0]
+    return [int(it, 16) for it in places_of[1:].split(".")] if places_of.startswith("p") else []
+
+
+def updates(program, racy):
+    """Returns which places that race, as a schedule names them, stand in lines that change what they read: for the host."""
+    found = []
+    for at, calls in places.read_lines(program, [hex(it - 1) for it in racy]).items():
+        path, _, line = calls[0][1].rpartition(":") if calls else ("", "", "")
+        if line.isdigit() and CHANGES.search(re.sub(r"/\*.*?\*/|//.*", "", linecache.getline(path, int(line)))):
+            found.append(f"{at + 1:x}")
+    return ",".join(sorted(found))
 
 
 def explore(options, program, folder, settings, tells=False):

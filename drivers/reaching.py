@@ -308,7 +308,7 @@ def codes(bench):
     yield "and where one is given", NO_COMPLAINT if not status and "no code " not in said else said[-900:]
 
 
-# Drivers of untested/ with a mistake: its number, what it is, the rule, where that is told, and of what.
+# Drivers of untested/ with a mistake: its number, what it is, the rule, where that is told, and of what; the run's flags.
 BUGS = [("holds", 1, "power comes back, and what is held isn't answered", "NotRestored", "NotRestored", "IRP_MN_SET_POWER to PowerDeviceD0"),
         ("holds", 2, "power comes back, and all is still held", "NotRestored", "NotRestored", "IRP_MN_SET_POWER to PowerDeviceD0"),
         ("holds", 3, "a removal is called off, and all is still held", "NotRestored", "NotRestored", "IRP_MN_CANCEL_REMOVE_DEVICE"),
@@ -320,19 +320,21 @@ BUGS = [("holds", 1, "power comes back, and what is held isn't answered", "NotRe
         ("waits", 1, "a queue gives a request of another file", "CleanupOfAnother", "CleanupOfAnother", "IRP_MJ_CLEANUP of the file"),
         ("waits", 2, "a file is closed, and its waits are held", "KeptOverCleanup", "KeptOverCleanup", "still holds it"),
         ("waits", 3, "STATUS_PENDING for a wait that isn't kept", "Returned", None, "in Control, dispatch for DEVICE_CONTROL"),
-        ("waits", 4, "the same, which isn't completed", "Returned", None, "in Control, dispatch for DEVICE_CONTROL")]
+        ("waits", 4, "the same, which isn't completed", "Returned", None, "in Control, dispatch for DEVICE_CONTROL"),
+        ("adds", 1, "two requests add to a sum at once", "LostUpdate", "LostUpdate", "one of the two changes is lost",
+         "--every-order", "--preemptions", "1", "--processes", "1", "--scenario", "overlap")]
 
 
 def bugs(bench, name):
     """Gives a complaint where a mistake of such a driver isn't told by rule, driver, file and line, or where its right
     counterpart isn't clean."""
-    source = f"{HERE}/untested/{name}.c"
-    for number, what, rule, at, words in ((it[1:]) for it in BUGS if it[0] == name):
-        said, status = run(bench, "--cflag", f"-DBUG={number}", source)
+    source, flags = f"{HERE}/untested/{name}.c", []
+    for number, what, rule, at, words, *flags in ((it[1:]) for it in BUGS if it[0] == name):
+        said, status = run(bench, *flags, "--cflag", f"-DBUG={number}", source)
         place = re.escape(place_in(source, f"told: {at}")) if at else rf"{name}\.c:\d+"
         told = re.search(rf"^host: FAULT {rule}\b.*: {place} .*{re.escape(words)}", said, re.M)
         yield f"{what}: {rule}", NO_COMPLAINT if told and status == 1 else f"status {status}: {said[-1200:]}"
-    said, status = run(bench, source)
+    said, status = run(bench, *flags, source)
     yield f"{name} without a mistake", NO_COMPLAINT if not status else f"status {status}: {said[-1200:]}"
 
 
@@ -350,6 +352,6 @@ def tests(bench):
             ("own test, asleep", lambda: asleep(bench)), ("own test, an own packet", lambda: own_packet(bench)),
             ("own test, a buffer's flag", lambda: with_its_flag(bench)),
             ("own test, codes", lambda: codes(bench)),
-            *((f"own test, bugs of {it}", lambda it=it: bugs(bench, it)) for it in ("holds", "usage", "waits")),
+            *((f"own test, bugs of {it}", lambda it=it: bugs(bench, it)) for it in ("holds", "usage", "waits", "adds")),
             ("own test, children", lambda: children(bench)),
             *((f"own test, stack {it}", lambda it=it: silent(bench, it)) for it in planted.FOR_OWN_TEST)]

@@ -66,7 +66,7 @@ def tests_of(misuses, cases):
         for (number, run, rule), _ in newer.mistakes_in(path):
             if not run:
                 found.setdefault(rule, ("newer", (path, number)))
-    for name, number, _, rule, _, _ in reaching.BUGS:
+    for name, number, _, rule, *_ in reaching.BUGS:
         found.setdefault(rule, ("untested", (name, number)))
     for rule in BY_SCHEDULE:
         found[rule] = ("schedule", rule)

@@ -65,6 +65,7 @@ static const Check checks[] = {
     { "KeptOverCleanup", "no stop code", "DispatchCleanup Routines",
       "cancel in IRP_MJ_CLEANUP each request that is held and has its FileObject" },
     { "CleanupOfAnother", "no stop code", "DispatchCleanup Routines", "compare FileObject of each request that is held" },
+    { "LostUpdate", "no stop code", "InterlockedExchangeAdd function", "change it under a lock, or by an Interlocked call" },
     { "LockInFreedMemory", "0xC4/0x1006", "Deadlock Detection", "give it back before the memory goes" },
 };
 

@@ -2,8 +2,8 @@
  * explore.c: makes every order within a bound, or one that is given, from before `main` on.
  *
  * WDM_EXPLORE is the most preemptions (-1: only the run by the usual order), WDM_SCHEDULE a schedule, WDM_CHANCE a seed.
- * With WDM_FURTHER one preemption more is allowed where that is quick; WDM_FORKS says why there are no snapshots. `run` sets
- * them, and reads the report.
+ * With WDM_FURTHER one preemption more is allowed where that is quick; WDM_FORKS says why there are no snapshots. WDM_UPDATES
+ * has the places in lines that change what they read, as `x += 1`. `run` sets them, and reads the report.
  */
 #include "snapshots.h"
 #include <fcntl.h>
@@ -48,6 +48,15 @@ void place_races(uint32_t place)
         return;
     shared->racy[n] = place;
     shared->order = TO_START_OVER;
+}
+
+bool is_update(uint32_t place) { return place && shared && shared->is_update[(uint16_t)place]; }
+
+static void learn_updates(void)
+{
+    const char *at = getenv("WDM_UPDATES");
+    for (char *end; at && *at; at = *end ? end + 1 : end)
+        shared->is_update[(uint16_t)strtoul(at, &end, 16)] = 1;
 }
 
 static void begin_round(int bound)
@@ -293,6 +302,7 @@ static void set_up(void)
     shared->part = (int)number("WDM_PART", 0);
     shared->parts = (int)number("WDM_PARTS", 0);
     most_seconds = (double)number("WDM_SECONDS", 0);
+    learn_updates();
     report = path ? fopen(path, "w") : NULL;
     began = seconds();
     function_name((const void *)&__executable_start); /* reads the symbols once, for all processes */

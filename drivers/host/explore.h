@@ -55,6 +55,7 @@ typedef struct {
     int n_active;              /* the first so many racy places are points */
     uint32_t racy[MAX_RACY];
     uint8_t is_point[1 << 16], is_racy[1 << 16];
+    uint8_t is_update[1 << 16]; /* in a line that changes what it reads */
     Site sites[MAX_SITES];
     Outcome *outcomes;         /* MAX_OUTCOMES of them */
     _Atomic unsigned long n_failed; /* runs that fail */
@@ -71,6 +72,7 @@ extern bool is_exploring;      /* this process forks at decisions */
 
 /* explore.c */
 void place_races(uint32_t place);
+bool is_update(uint32_t place);
 
 /* tables.c */
 void *share(size_t size);                        /* zeros, for all processes */

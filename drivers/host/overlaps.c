@@ -4,7 +4,8 @@
  * WDM_SCENARIO names the piece. Each puts the drivers, in their order, on a bottom device that completes reads and writes
  * later, and starts them. A driver that creates a device in DriverEntry gets the requests there, where these need no stack.
  *
- * Besides those that have a name, a piece is `A`, or `A+B`: A is read, write or the code of a control, which a thread sends;
+ * Besides those that have a name, a piece is `A`, or `A+B`: A is read, write, long (a read that a driver may split) or the
+ * code of a control, which a thread sends;
  * B is one of these too, or what happens to the device or the file meanwhile: cancel, cleanup, power, stop or surprise.
  *
  * The I/O manager frees the requests at their end, as nearly all on Windows, so that a dispatch that touches its packet after
@@ -33,12 +34,14 @@ static NTSTATUS keep(PDEVICE_OBJECT device, PIRP irp, PVOID context)
     return STATUS_MORE_PROCESSING_REQUIRED;
 }
 
-static void build(Request *r, UCHAR major)
+static void build_of(Request *r, UCHAR major, ULONG length)
 {
     KeInitializeEvent(&r->done, NotificationEvent, FALSE);
     r->is_kept = FALSE;
-    r->irp = WdmBuildIrp(top, major, 0, 16, &r->result, &r->done);
+    r->irp = WdmBuildIrp(top, major, 0, length, &r->result, &r->done);
 }
+
+static void build(Request *r, UCHAR major) { build_of(r, major, 16); }
 
 static void start(Request *r, UCHAR major)
 {
@@ -215,9 +218,10 @@ typedef struct { const char *what; PFILE_OBJECT file; } Act;
 
 static void build_act(Request *r, const Act *a)
 {
-    const BOOLEAN is_read = !strcmp(a->what, "read"), is_write = !strcmp(a->what, "write");
+    const BOOLEAN is_long = !strcmp(a->what, "long"), is_read = is_long || !strcmp(a->what, "read");
+    const BOOLEAN is_write = !strcmp(a->what, "write");
     WdmUseFile(a->file);
-    build(r, is_read ? IRP_MJ_READ : is_write ? IRP_MJ_WRITE : IRP_MJ_DEVICE_CONTROL);
+    build_of(r, is_read ? IRP_MJ_READ : is_write ? IRP_MJ_WRITE : IRP_MJ_DEVICE_CONTROL, is_long ? 64 : 16);
     if (!is_read && !is_write)
         IoGetNextIrpStackLocation(r->irp)->Parameters.DeviceIoControl.IoControlCode = (ULONG)strtoul(a->what, NULL, 0);
     WdmUseFile(NULL);

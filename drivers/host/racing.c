@@ -1,5 +1,5 @@
 /*
- * racing.c: which plain accesses race, by vector clocks; and memory that was let go.
+ * racing.c: which plain accesses race, by vector clocks; updates that are lost by that; and memory that was let go.
  *
  * A place of the program whose access was seen to race is a scheduling point from the next run on. Accesses to memory
  * that nothing orders otherwise thus meet in each order, and accesses under locks cost nothing.
@@ -11,6 +11,7 @@ typedef struct {
     const void *key;
     int writer, let_go_by;
     uint32_t written, readers; /* the writer's clock; a bit for each reader */
+    uint32_t overwritten;      /* a bit for each thread whose last read another one's write came behind */
     const void *write_pc;
     const char *let_go;
     WDM_SITE let_go_at;
@@ -92,16 +93,37 @@ static Cell *cell_of(const void *key)
 
 static uint32_t place_of(const void *pc) { return pc ? (uint32_t)((const char *)pc - &__executable_start) : 0; }
 
+static const char *access_place(const void *pc)
+{
+    static char where[200];
+    snprintf(where, sizeof where, "+0x%lx in %s", place_in_program((const char *)pc - 1), function_name(pc));
+    return where;
+}
+
 static void tell_let_go(Cell *c, bool writes, const void *pc)
 {
     const char *what = c->let_go;
-    char where[200];
     c->let_go = NULL;
-    snprintf(where, sizeof where, "+0x%lx in %s", place_in_program((const char *)pc - 1), function_name(pc));
-    Call here = { .name = where, .is_access = true }, *const calls = self.calls;
+    Call here = { .name = access_place(pc), .is_access = true }, *const calls = self.calls;
     self.calls = &here;
     broken("UsedAfterFree", NULL, "%s %s, which %s let go%s%s", writes ? "writes" : "reads", what,
            thread_name(c->let_go_by), c->let_go_at.file ? " at " : "", c->let_go_at.file ? place(c->let_go_at) : "");
+    self.calls = calls;
+}
+
+/* An access to several words is told once. */
+static void tell_lost_update(const Cell *c, const void *pc)
+{
+    static const void *told;
+    static int told_at = -1;
+    if (told == pc && told_at == points_of_run())
+        return;
+    told = pc;
+    told_at = points_of_run();
+    Call here = { .name = access_place(pc), .is_access = true }, *const calls = self.calls;
+    self.calls = &here;
+    broken("LostUpdate", NULL, "changes what it has read, and %s has written to that between: one of the two changes is lost",
+           thread_name(c->writer));
     self.calls = calls;
 }
 
@@ -136,6 +158,14 @@ static void note_race(uint32_t here, uint32_t there)
     place_races(there);
 }
 
+/* A line reads a word and writes it, and another thread that nothing orders has written there between. */
+static bool is_lost_update(Cell *c, int me, const void *pc)
+{
+    const bool is_overwritten = (c->overwritten & c->readers) >> me & 1;
+    return is_overwritten && is_update(place_of(pc)) && is_update(*place_of_read(c, me)) && c->writer != me && c->write_pc &&
+           c->written > clocks[me][c->writer];
+}
+
 /* An access to a cell at a place of the program, or at none. Only that of a plain one may become a point. */
 void access_to(const void *key, bool writes, const void *pc, bool is_plain)
 {
@@ -152,6 +182,9 @@ void access_to(const void *key, bool writes, const void *pc, bool is_plain)
         if (*last_read(c, t) > mine[t])
             note_race(place_of(pc), *place_of_read(c, t));
     }
+    if (writes && is_lost_update(c, me, pc))
+        tell_lost_update(c, pc);
+    c->overwritten = writes ? c->overwritten | (c->readers & ~(1u << me)) : c->overwritten & ~(1u << me);
     if (writes) {
         c->writer = me;
         c->written = mine[me];
