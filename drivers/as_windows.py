@@ -13,8 +13,15 @@ FILES = [
     ("files", "WRONG=2", "CleanupOfAnother", "EndReads"),
     ("master", "WRONG", "NoMaster", "Read"),
     ("open_at_removal", "WRONG", "Check", "Remove"),
-    ("own_packets", "WRONG", "MdlLocked", "FreeBuffers"),
-    ("timers_and_power", "WRONG", "Check", "SetPower"),
+    ("own_packets", "WRONG=1", "MdlLocked", "FreeBuffers"),
+    ("own_packets", "WRONG=2", "CancelRoutineSet", "SendOwn"),
+    ("own_packets", "WRONG=3", "NotKept", "PlayWithOwn"),
+    ("own_packets", "WRONG=4", "NotKept", "PlayWithOwn"),
+    ("stacked", "WRONG=1", "Check", "Entry"),
+    ("stacked", "WRONG=2", "Check", "OpenUpper"),
+    ("stacked", "WRONG=3", "DeviceGone", "main"),
+    ("timers_and_power", "WRONG=1", "Check", "SetPower"),
+    ("timers_and_power", "WRONG=2", "TimerInFreedMemory", "FreeTimer"),
 ]
 
 

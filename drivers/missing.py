@@ -1,8 +1,11 @@
 """What a driver wants and the host hasn't, told as one list before the compiler's own lines."""
 
+import os
 import re
 import subprocess
+import tempfile
 
+HERE = os.path.dirname(os.path.abspath(__file__))
 # Where a name isn't there: the group of the kit that it is of, by the first pattern that fits.
 GROUPS = [
     (r"^Flt|^FLT|^PFLT", "filter manager"),
@@ -38,6 +41,7 @@ WANTED = [
     (r"call to undeclared function [‘'`](\w+)[’']", "{}"),
     (r"has no member named [‘'`](\w+)[’']", "the member {}"),
     (r"error: ([\w./]+\.h): No such file", "{}"),
+    (r"error: '([\w./]+\.h)' file not found", "{}"),
     (r"undefined (?:reference|symbol)(?: to|:) [‘'`]?(\w+)[’']?", "{}"),
 ]
 # A macro that is there, and was given too few or too many arguments.
@@ -58,13 +62,47 @@ def names_in(said):
     return sorted(found.items())
 
 
+def functions_in(path):
+    """Returns the names of the functions that a file in C defines, and of pointers that it sets."""
+    with open(path, encoding="utf-8", errors="replace") as it:
+        text = it.read()
+    return set(re.findall(r"^[A-Za-z_][\w ]*[ *]\(?(\w+)\)?\((?=[^;{]*\{)", text, re.M) + re.findall(r"\*(\w+) = &", text))
+
+
+def said_of(words, source, room):
+    """Returns what the compiler says of a source. A header that isn't there is empty from then on, so that the names behind
+    it are told too. Where nothing is wrong, room has the object."""
+    said, before = "", ""
+    while True:
+        made = subprocess.run([*words, "-idirafter", room, "-c", source, "-o", room + "/object.o"], capture_output=True,
+                              text=True, errors="replace", check=False)
+        said += made.stderr
+        header = next((it for it, _ in names_in(made.stderr) if it.endswith(".h")), before)
+        if header == before or header.startswith(("/", ".")):
+            return said
+        before = header
+        os.makedirs(os.path.dirname(f"{room}/{header}"), exist_ok=True)
+        with open(f"{room}/{header}", "w", encoding="utf-8"):
+            pass
+
+
+def undefined_in(made, there):
+    """Returns the calls of the kit in an object that aren't there: ones that are declared, and that nobody defines."""
+    words = ["nm", "-u", made]
+    told = subprocess.run(words, capture_output=True, text=True, check=False).stdout if os.path.exists(made) else ""
+    return [it for it in re.findall(r"\bU (\w+)", told) if it not in there and group_of(it)]
+
+
 def tell(compiler, flags, sources):
     """Prints what each source wants and the host hasn't. Returns 1 where that is anything, else 0."""
-    ended = 0
+    ended, words = 0, [compiler, *flags, *(["-ferror-limit=0"] if "clang" in compiler else [])]
+    there = set().union(*(functions_in(f"{HERE}/host/{it}") for it in os.listdir(HERE + "/host") if it.endswith(".c")),
+                        *map(functions_in, sources))
     for source in sources:
-        words = [compiler, *flags, "-fsyntax-only", "-Wimplicit-function-declaration", source]
-        made = subprocess.run(words, capture_output=True, text=True, errors="replace", check=False)
-        for name, group in names_in(made.stderr):
+        with tempfile.TemporaryDirectory() as room:
+            said = said_of(words, source, room)
+            said += "".join(f"undefined reference to '{it}'\n" for it in undefined_in(room + "/object.o", there))
+        for name, group in names_in(said):
             print(f"{source}: {name}{f' ({group})' if group else ''}")
             ended = 1
     print("(drivers/INTERFACE.md has what is there)" if ended else "the host has all that these sources name")
