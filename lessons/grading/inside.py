@@ -22,6 +22,7 @@ NOBODY = 65100  # a user that no system has, for who grades as root
 PAGE, TICKS, CLOCK = os.sysconf("SC_PAGE_SIZE"), os.sysconf("SC_CLK_TCK"), 3600
 KEPT_FLAGS = {os.ST_NOSUID: "nosuid", os.ST_NODEV: "nodev", os.ST_NOEXEC: "noexec"}
 SUBREAPER = 36  # PR_SET_CHILD_SUBREAPER
+BEHIND = 10  # how much nicer the command is
 
 
 def mount(*words):
@@ -100,8 +101,10 @@ def threads_of(user):
 
 
 def limited(limits, threads):
-    """Sets what the system limits for each process of the command, whose user has so many threads already."""
+    """Sets what the system limits for each process of the command, whose user has so many threads already. They all run behind
+    this one, which has to come to its turn to end them."""
     seconds, _, processes, files = limits
+    os.nice(BEHIND)
     for kind, most in ((resource.RLIMIT_CPU, 2 * seconds), (resource.RLIMIT_NPROC, 2 * processes + threads),
                        (resource.RLIMIT_FSIZE, files * MEGABYTE), (resource.RLIMIT_NOFILE, 1024), (resource.RLIMIT_CORE, 0)):
         hard = resource.getrlimit(kind)[1]
@@ -110,7 +113,7 @@ def limited(limits, threads):
 
 
 def go_first():
-    """Lets this process run before the command, however many processes that has."""
+    """Lets this process run before the command, however many processes that has. Only root may; the command goes behind, too."""
     try:
         os.setpriority(os.PRIO_PROCESS, 0, -10)
     except PermissionError:

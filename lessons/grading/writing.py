@@ -8,7 +8,7 @@ import io
 MEANS = {"right": "it is right", "not yet": "a run tells a fault, or shows too little", "untried": "it can't be compiled or run",
          "time": "its time was up", "processes": "it started too many processes", "memory": "it took too much memory"}
 STYLE = """body { font: 16px/1.4 sans-serif; margin: 2em; }
-table { border-collapse: collapse; }
+table { border-collapse: collapse; margin-bottom: 1.2em; }
 th, td { border: 1px solid #999; padding: .2em .6em; text-align: left; }
 .right { background: #cfe8cf; }
 .not, .untried { background: #f4e3b5; }

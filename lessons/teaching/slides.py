@@ -6,7 +6,9 @@ import moments
 import plans
 import texts
 
-MOST_MOMENTS, MOST_LINES, MOST_CALLS = 12, 30, 6
+MOST_MOMENTS, MOST_LINES, MOST_CALLS = 12, 26, 6
+# Of code: a line's height by its letters', the room that a slide has for lines, and the columns that fit where letters are largest.
+LINE, MOST_REMS, MOST_COLUMNS = 1.32, 28, 86
 STYLE = """
 :root { color-scheme: light; --ink: #1b1f24; --soft: #57606a; --edge: #d0d7de; --paper: #fff; --lane: #f3f5f8; --down: #0b5394;
   --up: #0a6b57; --wait: #8a5000; --waitfill: #fff4dc; --bad: #b3161c; --badfill: #fdecec; --keep: #6a2c9c; --keepfill: #f5ecfc;
@@ -19,8 +21,7 @@ body { max-width: none; margin: 0; padding: 0; font-size: 1rem; }
   display: flex; justify-content: space-between; }
 .slide p { margin: 0 0 .9rem; font-size: 1.25rem; }
 .slide pre { margin: 0; background: var(--lane); padding: .6rem .8rem; overflow: hidden; }
-.slide pre.code { font-size: .82rem; line-height: 1.32; }
-.slide pre.long { font-size: .62rem; }
+.slide pre.code { line-height: LINE; white-space: pre-wrap; }
 .slide pre.run { font-size: .95rem; white-space: pre-wrap; margin-bottom: .9rem; }
 .cover { display: flex; flex-direction: column; justify-content: center; }
 .cover h1 { font-size: 2.8rem; }
@@ -47,6 +48,12 @@ addEventListener('keydown', it => {
 """
 
 
+def size_of(code):
+    """Returns the size of letters, in rem, by which a slide shows a piece of code whole."""
+    lines = sum(max(1, -(-len(it) // MOST_COLUMNS)) for it in code.split("\n"))
+    return min(0.82, MOST_REMS / LINE / lines)
+
+
 def code_slides(code):
     """Returns the slides' bodies that show code, by whole functions where these are short enough."""
     parts, held = [], ""
@@ -55,8 +62,7 @@ def code_slides(code):
         if held and joined.count("\n") >= MOST_LINES:
             parts, joined = [*parts, held], it
         held = joined
-    sizes = [" long" if it.count("\n") >= MOST_LINES or max(map(len, it.split("\n"))) > 100 else "" for it in (*parts, held)]
-    return [f'<pre class="code{size}">{html.escape(it)}</pre>' for it, size in zip((*parts, held), sizes)]
+    return [f'<pre class="code" style="font-size: {size_of(it):.2f}rem">{html.escape(it)}</pre>' for it in (*parts, held)]
 
 
 def moment_slides(found):
@@ -97,4 +103,4 @@ def page_of(lessons):
     shapes = ('<svg class="shapes" aria-hidden="true"><defs><path id="down" d="M0 0l-5 -8h10z"/>'
               '<path id="up" d="M0 0l-5 8h10z"/></defs></svg>')
     return ('<!DOCTYPE html>\n<html lang="en"><head><meta charset="utf-8"><title>Driver stacks</title>'
-            f"<style>{style}{STYLE}</style></head>\n<body>{shapes}\n" + "\n".join(parts) + f"\n<script>{KEYS}</script></body></html>\n")
+            f"<style>{style}{STYLE.replace('LINE', str(LINE))}</style></head>\n<body>{shapes}\n" + "\n".join(parts) + f"\n<script>{KEYS}</script></body></html>\n")
