@@ -2,6 +2,7 @@
 keeps the rule."""
 
 import itertools
+import json
 import os
 import re
 import shlex
@@ -358,6 +359,10 @@ def dispatches(bench):
         told = re.findall(r"FAULT NotPassedDown .*? has no dispatch for IRP_MJ_(\w+),", said)
         well = sorted(told) == sorted(left) and status == bool(left)
         yield f"a driver without a dispatch for {' and '.join(left) or 'nothing'}", None if well else f"{told} {said[-700:]}"
+    said, status = ran(bench, "--json", f"{path}.json", f"--cflag=-DLEAVES={1 << 3}", path)
+    with open(f"{path}.json", encoding="utf-8") as it:
+        reads = [it["name"] for it in json.load(it)["situations"] if it["name"].startswith("a read")]
+    yield "no situation of a read counts where no driver gets one", None if not status and not reads else f"{reads} {said[-700:]}"
 
 
 STARVED = r"""#include <wdm.h>

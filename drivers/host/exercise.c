@@ -53,7 +53,7 @@ static void use_overlapped(PDEVICE_OBJECT top)
             make_request(top, transfer(IRP_MJ_WRITE, 40), PLAIN, PATIENT);
         end_request(&first, PATIENT);
     }
-    made_if(SITUATION_READ_MEETS, is_kept, held_none);
+    made_with(top, IRP_MJ_READ, SITUATION_READ_MEETS, is_kept ? NULL : held_none);
     use_overlapped_controls(top);
 }
 
@@ -67,7 +67,10 @@ static void use_lengths(PDEVICE_OBJECT top)
         for (int i = 0; i < n_controls; i++)
             make_request(top, control(i, lengths[n]), PLAIN, SHORTLY);
     }
-    made(SITUATION_LENGTHS);
+    made_with(top, IRP_MJ_READ, SITUATION_LENGTHS, NULL);
+    made_with(top, IRP_MJ_WRITE, SITUATION_LENGTHS, NULL);
+    if (n_controls)
+        made(SITUATION_LENGTHS);
 }
 
 /* Cancels before a request is sent, while it is on its way, and after it was completed. */
@@ -80,18 +83,15 @@ static void use_cancels(PDEVICE_OBJECT top)
         for (int i = 0; i < n_controls; i++)
             make_request(top, control(i, 32), hows[n], SHORTLY);
     }
-    not_made(SITUATION_READ_CANCELLED, "each read was completed at once");
-    not_made(SITUATION_WRITE_CANCELLED, "each write was completed at once");
+    made_with(top, IRP_MJ_READ, SITUATION_READ_CANCELLED, "each read was completed at once");
+    made_with(top, IRP_MJ_WRITE, SITUATION_WRITE_CANCELLED, "each write was completed at once");
     not_made(SITUATION_HELD_CANCELLED, held_none);
 }
 
 static void send_one(PDEVICE_OBJECT top, What what, Situation s)
 {
     make_request(top, what, PLAIN, PATIENT);
-    if (top->DriverObject->MajorFunction[what.major])
-        made(s);
-    else
-        not_there(s, "the uppermost driver has no dispatch for it");
+    made_with(top, what.major, s, NULL);
 }
 
 /* Opens the device and uses it. */

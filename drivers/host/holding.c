@@ -6,6 +6,7 @@
 
 enum { MOST_FOR_TIMERS = 300, MAX_CHILDREN = 16, MAX_ASKED = 256 + 64, CROWD = 20 };
 static const char held_none[] = "each request was completed at once";
+static const char no_second[] = "the second IRP_MJ_CREATE fails", no_file[] = "IRP_MJ_CREATE fails";
 static const char needs_file[] = "a driver keeps a context in files, so each request needs one";
 
 /* What is asked for and not cancelled: what each request asks for, and whether it was held when it was sent. */
@@ -14,7 +15,7 @@ typedef struct { Request request[MAX_ASKED]; What what[MAX_ASKED]; BOOLEAN was_h
 Opened open_it(PDEVICE_OBJECT top)
 {
     PFILE_OBJECT file = WdmOpenFile(top);
-    made_if(SITUATION_OPENED, file != NULL, "IRP_MJ_CREATE fails");
+    made_if(SITUATION_OPENED, file != NULL, no_file);
     return (Opened){ top, file, file && (file->FsContext || file->FsContext2), FALSE };
 }
 
@@ -130,9 +131,13 @@ void use_two_files(PDEVICE_OBJECT top, Opened first)
 {
     Asked known = { .n = 0, .how = PLAIN }, mine = { .n = 0, .how = PLAIN }, other = { .n = 0, .how = PLAIN };
     Opened second = open_it(top);
-    made_if(SITUATION_TWO_FILES, first.file && second.file, "the second IRP_MJ_CREATE fails");
-    if (!first.file || !second.file)
+    made_if(SITUATION_TWO_FILES, first.file && second.file, no_second);
+    if (!first.file || !second.file) {
+        const Situation needing[] = { SITUATION_CLEANUP_HELD, SITUATION_CLEANUP_OTHER, SITUATION_CONTROL_CLEANUP };
+        for (size_t i = 0; i < ARRAYSIZE(needing); i++)
+            not_made(needing[i], first.file ? no_second : no_file);
         return;
+    }
     WdmUseFile(first.file);
     find_holding(&known, top);
     hold_again(&mine, top, &known);
@@ -174,7 +179,7 @@ void sleep_and_wake(PDEVICE_OBJECT top)
     Request read;
     const BOOLEAN reads = start_request(&read, top, transfer(IRP_MJ_READ, 16), PLAIN);
     ULONG n = WdmGetChildren(bottom, order, MAX_CHILDREN), asked = 0;
-    made_if(SITUATION_READ_SLEEPS, reads && is_held(&read), held_none);
+    made_with(top, IRP_MJ_READ, SITUATION_READ_SLEEPS, reads && is_held(&read) ? NULL : held_none);
     for (ULONG i = 0; i < n; i++)
         order[i] = IoGetAttachedDevice(order[i]);
     order[n++] = top;
@@ -207,7 +212,7 @@ void use_in_d3(PDEVICE_OBJECT top)
     if (!NT_SUCCESS(set_power(top, IRP_MN_SET_POWER, PowerDeviceD3)))
         return;
     ask_meanwhile(top);
-    made(SITUATION_READ_IN_D3);
+    made_with(top, IRP_MJ_READ, SITUATION_READ_IN_D3, NULL);
     let_timers_go_off();
     set_power(top, IRP_MN_SET_POWER, PowerDeviceD0);
     compare_answers(top, "IRP_MN_SET_POWER to PowerDeviceD0");
@@ -220,7 +225,7 @@ static void ask_and_call_off(PDEVICE_OBJECT top, UCHAR query, UCHAR cancel, Situ
     const BOOLEAN agrees = NT_SUCCESS(WdmSend(top, IRP_MJ_PNP, query, 0));
     ask_meanwhile(top);
     made(asked);
-    made_if(meanwhile, agrees, "a driver doesn't agree");
+    made_with(top, IRP_MJ_READ, meanwhile, agrees ? NULL : "a driver doesn't agree");
     WdmSend(top, IRP_MJ_PNP, cancel, 0);
     compare_answers(top, cancel == IRP_MN_CANCEL_STOP_DEVICE ? "IRP_MN_CANCEL_STOP_DEVICE" : "IRP_MN_CANCEL_REMOVE_DEVICE");
 }
@@ -269,7 +274,7 @@ void remove_by_surprise(PDEVICE_OBJECT top, Opened o)
     if (writes)
         end_request(&write, PATIENT);
     make_request(top, transfer(IRP_MJ_READ, 16), PLAIN, SHORTLY);
-    made(SITUATION_READ_GONE);
+    made_with(top, IRP_MJ_READ, SITUATION_READ_GONE, NULL);
     clean_up(&o);
     tell_kept(&asked);
     if (o.has_context)
@@ -295,7 +300,7 @@ static void removal_is_below(void)
 {
     LARGE_INTEGER limit = { .QuadPart = -10000LL * PATIENT };
     at_removal = NULL;
-    made(SITUATION_READ_MEETS_REMOVE);
+    made_with(during.top, IRP_MJ_READ, SITUATION_READ_MEETS_REMOVE, NULL);
     ObReferenceObject(during.top);
     during.is_begun = !pthread_create(&during.thread, NULL, read_during, NULL);
     if (during.is_begun)
@@ -347,8 +352,8 @@ void remove_in_order(PDEVICE_OBJECT top, Opened o, BOOLEAN is_read)
     made_if(SITUATION_HELD_REMOVE, is_any_held(&asked), o.has_context ? needs_file : held_none);
     await_own_packet();
     if (is_read)
-        not_made(SITUATION_READ_MEETS_REMOVE, o.has_context ? needs_file : has_locks ? "IRP_MN_REMOVE_DEVICE isn't passed down" :
-                 "not each driver has a remove lock");
+        made_with(top, IRP_MJ_READ, SITUATION_READ_MEETS_REMOVE, o.has_context ? needs_file :
+                  has_locks ? "IRP_MN_REMOVE_DEVICE isn't passed down" : "not each driver has a remove lock");
     if (is_read && !o.has_context && has_locks)
         unplug_while_read(top);
     else

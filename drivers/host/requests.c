@@ -15,6 +15,14 @@ What transfer(UCHAR major, ULONG length) { return (What){ major, length, 0 }; }
 BOOLEAN is_held(Request *r) { return KeReadStateEvent(&r->done) == 0; }
 BOOLEAN is_held_by_driver(Request *r) { return is_held(r) && !(bottom && bottom_holds(bottom)); }
 
+void made_with(PDEVICE_OBJECT top, UCHAR major, Situation s, const char *why_not)
+{
+    if (top->DriverObject->MajorFunction[major])
+        made_if(s, !why_not, why_not);
+    else
+        not_there(s, "the uppermost driver has no dispatch for it");
+}
+
 static NTSTATUS keep(PDEVICE_OBJECT device, PIRP irp, PVOID context)
 {
     Request *r = context;

@@ -23,6 +23,9 @@ extern PDEVICE_OBJECT bottom;
 BOOLEAN is_held(Request *r);
 BOOLEAN is_held_by_driver(Request *r);
 
+/* It was made with a request of this major, or why it wasn't: it can't be where the uppermost driver has no dispatch for it. */
+void made_with(PDEVICE_OBJECT top, UCHAR major, Situation s, const char *why_not);
+
 /* Sends a request. Returns FALSE where there is no memory for it. */
 BOOLEAN start_request(Request *r, PDEVICE_OBJECT top, What what, How how);
 /* Waits for a request, and cancels it where it isn't done after some milliseconds. Returns its status. */
