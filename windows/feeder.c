@@ -26,14 +26,17 @@ static SC_HANDLE start(const char *path)
     GetFullPathNameA(path, sizeof full, full, NULL);
     service = CreateServiceA(manager, service_name, service_name, SERVICE_ALL_ACCESS, SERVICE_KERNEL_DRIVER,
                              SERVICE_DEMAND_START, SERVICE_ERROR_NORMAL, full, NULL, NULL, NULL, NULL, NULL);
-    if (!service) { /* of an earlier call, maybe with a player.sys elsewhere */
+    if (!service) { /* of an earlier call that was ended, maybe with another driver, which may run still */
+        SERVICE_STATUS status;
         service = OpenServiceA(manager, service_name, SERVICE_ALL_ACCESS);
+        if (service)
+            ControlService(service, SERVICE_CONTROL_STOP, &status);
         if (service)
             ChangeServiceConfigA(service, SERVICE_NO_CHANGE, SERVICE_NO_CHANGE, SERVICE_NO_CHANGE, full, NULL, NULL, NULL,
                                  NULL, NULL, NULL);
     }
-    if (!service || (!StartServiceA(service, 0, NULL) && GetLastError() != ERROR_SERVICE_ALREADY_RUNNING))
-        fail("the driver doesn't start (is test signing on?)");
+    if (!service || !StartServiceA(service, 0, NULL))
+        fail("the driver doesn't start (is test signing on? does one of an earlier call run still?)");
     return service;
 }
 
