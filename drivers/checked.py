@@ -18,6 +18,8 @@ import reaching
 HERE = os.path.dirname(os.path.abspath(__file__))
 # What the run of a case needs, by the end of its name.
 SETTINGS = {"_Routine": {"WDM_ROUTINES_HIGH": "1"}, "_PageEnds": {"WDM_PAGE_ENDS": "1"}}
+# What is told of these depends on time, but where that passes only while all wait.
+BY_SCHEDULE = ("TouchedAfterSend", "UsedInFreedMemory_Event")
 NO_COMPLAINT = None
 
 # Drivers of unlucky/ that stand on each other, and the runs that tell the last one's mistakes. A plain run tells none
@@ -56,6 +58,17 @@ def wrong_case(case, places, run):
     return NO_COMPLAINT if run.complaints() else "it counts as clean"
 
 
+class BySchedule:
+    """A run of a case that breaks its rule, in the usual order of its threads."""
+
+    def __init__(self, bench, case):
+        made = bench.ran("--schedule", "usual", "--args", f"{case} wrong", HERE + "/rules")
+        self.said, self.verdict, self.status = made.stderr, made.stdout, made.returncode
+
+    def complaints(self):
+        return self.status == 1
+
+
 def tests(bench, names_of, complaint):
     """Gives a name and a complaint for each case, broken and kept, and for each rule without a case."""
     folder = bench.folder("rules")
@@ -63,7 +76,8 @@ def tests(bench, names_of, complaint):
     places, names = lines_told(), names_of(program)
     for case in names:
         settings = SETTINGS.get("_" + case.partition("_")[2], {})
-        wrong = bench.run(folder, program, args=f"{case} wrong", patience=1, settings=settings)
+        wrong = BySchedule(bench, case) if case in BY_SCHEDULE else \
+            bench.run(folder, program, args=f"{case} wrong", patience=1, settings=settings)
         yield f"rule {case}, broken", wrong_case(case, places.get(case, []), wrong)
         right = bench.run(folder, program, args=f"{case} right", settings=settings)
         yield f"rule {case}, kept", complaint(right)
