@@ -113,7 +113,7 @@ def example(name, runs):
     tally, text = Tally(), text_of_example(name)
     count, wrong, outcomes = TABLES[name]
     table = ended(orders.IRP_ORDERS, text=text).decode()
-    found = sorted((int(it) for it in re.findall(rf"(?m)^outcome \d+: (\d+) of {count} orders", table)), reverse=True)
+    found = sorted((int(it) for it in re.findall(rf"(?m)^outcome \d+: (\d+) of {count} orders?", table)), reverse=True)
     tally.note("tables", f"{name}: {table.splitlines()[:1]}", sum(found) == count and outcomes in (None, found))
     if HAS_RIGHT:
         left = subprocess.run([orders.IRP_ORDERS, "--right"], input=text, capture_output=True, timeout=300)

@@ -52,7 +52,7 @@ has='No such file'
 gives 5 /dev/null run "$room/nothing"
 has='refused: Ended'
 gives 0 "$room/transcript" text
-has='1 of 1 orders'
+has='1 of 1 order'
 gives 0 "$room/script" orders
 has='differs in'
 gives 2 ../examples/why/completed_twice.transcript why

@@ -73,7 +73,7 @@ a_hand_over_against_a_drain|held(lock 0) == 1 and removing(lock 0)|it holds in 3
 a_hand_over_against_a_drain|reply(5) == not_held and held(0) >= 1|it holds in 38 of 143 orders, 1 of 5 outcomes; one of them:
 a_reuse_against_a_late_cancel|reply(4) == true|it holds in 3 of 21 orders, 1 of 5 outcomes; one of them:
 a_reuse_against_a_late_cancel|current(a) < 2 and status(a) <= 0|it holds in 15 of 21 orders, 3 of 5 outcomes; one of them:
-an_allocation_after_two_frees|reply(5) == NoIrp|it holds in 1 of 1 orders, 1 of 1 outcomes; one of them:
+an_allocation_after_two_frees|reply(5) == NoIrp|it holds in 1 of 1 order, 1 of 1 outcome; one of them:
 two_frees_against_an_allocation|reply(3) == NoIrp|it holds in 1 of 5 orders, 1 of 3 outcomes; one of them:
 a_look_between_a_reuse_and_its_label|reply(1) == Stale and reply(2) == Stale|it holds in 4 of 15 orders, 1 of 4 outcomes; one of them:
 END
@@ -147,7 +147,7 @@ left() {
 }
 look='{"seat":0,"do":"look","irp":"a"}'
 left '"hold_slot"' '' '{"seat":0,"do":"publish","slot":0,"irp":"a"}'
-ended 'a full slot' 2 '' 'not right in 1 of 1 orders, 1 of 1 outcomes; one of them:'
+ended 'a full slot' 2 '' 'not right in 1 of 1 order, 1 of 1 outcome; one of them:'
 meets "a full slot: $told" [ "$told" = 'D0 has a;cancel slot 0 is full: use 1 stands in it' ]
 meets "a full slot: such orders: $such" [ "$such" = "--never 'owner(a) == D0'" ]
 left '"hold_slot"' '' '{"seat":0,"do":"publish","slot":0,"irp":"a"},{"seat":0,"do":"allocate","size":1,"as":"a"}'
@@ -159,13 +159,13 @@ left '"finish",0,4' ',{"seat":0,"do":"mark_pending","by":0,"irp":"a"}' "$look"
 meets "a setup: $told" [ "$told" = 'step 4 of setup was refused: Ended' ]
 meets "a setup: no such orders: $such" [ -z "$such" ]
 left '"finish",0,4' '' "$look"
-ended 'a look at what was completed' 0 '' 'right: 1 orders, 1 outcomes'
+ended 'a look at what was completed' 0 '' 'right: 1 order, 1 outcome'
 
 # Texts that are no conditions: the column, and what was expected there.
 while IFS='|' read -r condition column expected; do
     [ -n "$column" ] || continue
     run --never "$condition" "$examples"/a_cancel_against_a_completion.script
-    ended "never '$condition'" 4 "irp_orders: condition refused: column $column: expected $expected"
+    ended "never '$condition'" 4 "irp: condition refused: column $column: expected $expected"
 done <<'END'
 |1|not, a parenthesis, or reply, made, owner, status, information, current, live, cancel, deleted, held or removing
 owner(b) == ended|7|a label of the script, as in owner(a)
@@ -190,7 +190,7 @@ live(a) and|12|not, a parenthesis, or reply, made, owner, status, information, c
 END
 deep=$(printf 'not %.0s' $(seq 33))
 run --never "${deep}live(a)" "$examples"/a_cancel_against_a_completion.script
-ended 'thirty-three nots' 4 'irp_orders: condition refused: column 129: expected at most 32 parentheses and nots within each other'
+ended 'thirty-three nots' 4 'irp: condition refused: column 129: expected at most 32 parentheses and nots within each other'
 run --never "${deep#not }live(a)" "$examples"/a_cancel_against_a_completion.script
 ended 'thirty-two nots' 2 '' 'it holds in 3 of 3 orders, 3 of 3 outcomes; one of them:'
 
@@ -206,9 +206,9 @@ for script in two_preparations_of_one_packet a_look_between_a_reuse_and_its_labe
     meets "$script by ends: $outcomes outcomes, $blocks told" [ "$outcomes" -eq "$blocks" ]
 done
 run --ends --never 'live(a) and reply(0) == done' "$examples"/a_cancel_against_a_completion.script
-ended 'a reply by ends' 4 'irp_orders: condition refused: column 13: expected no reply, made or deleted beside --ends, which leaves replies out'
+ended 'a reply by ends' 4 'irp: condition refused: column 13: expected no reply, made or deleted beside --ends, which leaves replies out'
 run --ends --never 'made(0)' "$examples"/a_cancel_against_a_completion.script
-ended 'a step made, by ends' 4 'irp_orders: condition refused: column 1: expected no reply, made or deleted beside --ends, which leaves replies out'
+ended 'a step made, by ends' 4 'irp: condition refused: column 1: expected no reply, made or deleted beside --ends, which leaves replies out'
 
 # Two seats that allocate: the outcomes differ in use numbers alone.
 printf '{"form":1,"seats":2,"locks":1,"completions":[],"cancels":[],"dispatches":[],"drivers":[[]],"setup":[],"steps":[%s,%s]}' \
@@ -233,21 +233,21 @@ if [ -z "${IRP_ORDERS:-}" ]; then
 fi
 for number in 0 4; do
     run --show "$number" "$examples"/a_cancel_against_a_completion.script
-    ended "show $number" 4 'irp_orders: outcomes are numbered 1 to 3'
+    ended "show $number" 4 'irp: outcomes are numbered 1 to 3'
 done
 
 # Bounds that are met.
 run --states 1 "$examples"/a_removal_against_a_send.script
-ended 'one state' 3 'irp_orders: more states than may be side by side; --states N allows more, --ends (not beside --right) needs fewer'
+ended 'one state' 3 'irp: more states than may be side by side; --states N allows more, --ends (not beside --right) needs fewer'
 run --outcomes 4 "$examples"/a_removal_against_a_send.script
-ended 'four outcomes' 3 'irp_orders: more outcomes than there may be; --outcomes N allows more, --ends (not beside --right) has fewer'
+ended 'four outcomes' 3 'irp: more outcomes than there may be; --outcomes N allows more, --ends (not beside --right) has fewer'
 run --outcomes 5 "$examples"/a_removal_against_a_send.script
 ended 'five outcomes' 0 '' 'outcomes: 5, of 71 orders'
 
 # Scripts that are refused are told as irpx tells them.
 for script in refused/*.script; do
     run "$script"
-    ended "$script" 1 "$(sed 's/^irpx:/irp_orders:/' "${script%.script}.expected")"
+    ended "$script" 1 "$(sed 's/^irpx:/irp:/' "${script%.script}.expected")"
 done
 
 # A script in words has the orders of its JSON, and its faults are told as irp_words tells them.
@@ -264,7 +264,7 @@ ended 'faulty words' 1 'line 2, column 10: "STATUS_SUCESS"; expected a status: a
 line 4, column 8: "by"; expected a key of look, each once: irp'
 
 # Other words, files and outputs.
-usage='irp_orders: usage: irp_orders [--show K or --never CONDITION or --right] [FILE]; see irp_orders --help'
+usage='irp: usage: irp orders [--show K or --never CONDITION or --right] [FILE]; see irp orders --help'
 while read -r words; do
     # shellcheck disable=SC2086
     run $words <.
@@ -280,19 +280,19 @@ END
 for words in '--show 1' '--never live(a)' --ends; do
     # shellcheck disable=SC2086
     run --right $words "$examples"/a_lost_pending_mark.script
-    ended "--right $words" 4 'irp_orders: --right stands without --show, --never and --ends; leave out the other word'
+    ended "--right $words" 4 'irp: --right stands without --show, --never and --ends; leave out the other word'
 done
 run --right --states 1 "$examples"/a_removal_against_a_send.script
-ended 'one state, right' 3 'irp_orders: more states than may be side by side; --states N allows more, --ends (not beside --right) needs fewer'
+ended 'one state, right' 3 'irp: more states than may be side by side; --states N allows more, --ends (not beside --right) needs fewer'
 run "$room/none.script"
-ended 'no such file' 5 "irp_orders: $room/none.script: can't be opened: there is no such file"
+ended 'no such file' 5 "irp: $room/none.script: can't be opened: there is no such file"
 run <.
-ended 'a directory' 5 'irp_orders: input or output failed'
+ended 'a directory' 5 'irp: input or output failed'
 timeout 300 "$irp_orders" "$examples"/a_lost_pending_mark.script >/dev/full 2>"$room/errors"
 status=$?
-ended 'a full device' 5 'irp_orders: input or output failed'
+ended 'a full device' 5 'irp: input or output failed'
 run --help
-meets '--help shows an example' grep -q "irp_orders --never '" "$room/output"
+meets '--help shows an example' grep -q "irp orders --never '" "$room/output"
 
 echo "tried: $tried $wrong orders"
 if ! python3 -c 'import sys; sys.exit(sys.version_info < (3, 9))' 2>/dev/null; then

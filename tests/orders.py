@@ -101,8 +101,8 @@ def told(text, script):
     """Returns for which replies, with what is left in the manager, the program tells how many orders, a number for each
     outcome, each with the changes of seat among the calls that it shows; and what is wrong with its transcripts."""
     table = ended(IRP_ORDERS, text=text).decode()
-    counts = [int(it) for it in re.findall(r"(?m)^outcome \d+: (\d+) of \d+ orders", table)]
-    head = re.match(r"outcomes: (\d+), of (\d+) orders\n", table)
+    counts = [int(it) for it in re.findall(r"(?m)^outcome \d+: (\d+) of \d+ orders?", table)]
+    head = re.match(r"outcomes: (\d+), of (\d+) orders?\n", table)
     if not head or [int(it) for it in head.groups()] != [len(counts), sum(counts)]:
         return None, f"the first line is {table.splitlines()[:1]}, and {len(counts)} outcomes follow"
     found = collections.defaultdict(list)
@@ -116,6 +116,11 @@ def told(text, script):
     return found, None
 
 
+def counted(orders):
+    """Returns how many orders there are, in words."""
+    return f"{orders} order{'' if orders == 1 else 's'}"
+
+
 def never(text, wanted, condition, meets):
     """Returns what is wrong with what `--never` tells of a condition, where orders meet it whose answers of steps, by place, do;
     or None."""
@@ -123,7 +128,7 @@ def never(text, wanted, condition, meets):
     count = sum(many for (replies, _, _), many in wanted[0].items() if meets(dict(read_json(replies))))
     it = subprocess.run([IRP_ORDERS, "--never", condition], input=text, capture_output=True, timeout=300)
     line = it.stdout.decode().split("\n")[0]
-    start = f"it holds in {count} of {orders} orders, " if count else f"never: it holds in none of {orders} orders, "
+    start = f"it holds in {count} of {counted(orders)}, " if count else f"never: it holds in none of {counted(orders)}, "
     is_so = it.returncode == (2 if count else 0) and line.startswith(start)
     return None if is_so else f"--never {condition}: expected {start}.., got status {it.returncode}, {line}"
 
@@ -135,9 +140,9 @@ def judged(text, wanted):
     told = it.stdout.decode()
     line = told.split("\n")[0]
     if right == orders:
-        is_so = it.returncode == 0 and line.startswith(f"right: {orders} orders, ")
+        is_so = it.returncode == 0 and line.startswith(f"right: {counted(orders)}, ")
     else:
-        is_so = it.returncode == 2 and line.startswith(f"not right in {orders - right} of {orders} orders, ")
+        is_so = it.returncode == 2 and line.startswith(f"not right in {orders - right} of {counted(orders)}, ")
         is_so = is_so and "\nwrong: " in told
     if is_so and (such := re.search(r"\nsuch orders: --never '(.*)'\n$", told)):
         return such_orders(text, such[1], orders - right)

@@ -108,7 +108,7 @@ meets 'an empty text' [ $? -eq 0 ]
 # A file that isn't there is named.
 "$irp_words" json "$room/no_such_file" >"$room/output" 2>"$room/told"
 meets 'no such file: status' [ $? -eq 5 ]
-echo "irp_words: $room/no_such_file: can't be opened: there is no such file" | cmp -s - "$room/told"
+echo "irp: $room/no_such_file: can't be opened: there is no such file" | cmp -s - "$room/told"
 meets 'no such file: what is told' [ $? -eq 0 ]
 
 # The tables are one object, and take no further word. tests/names.bash compares what they hold.

@@ -29,7 +29,7 @@ status_of Failed = 5
 abbrev pub complaint_of : Ending → List ℕ
 complaint_of Done = codes ""
 complaint_of Illegal = codes ""
-complaint_of RefusedHeader = codes "irp_live: transcript refused: line 1"
-complaint_of NoMemory = codes "irp_live: out of memory"
-complaint_of OtherWords = codes "irp_live: usage: irp_live, or irp_live --help"
-complaint_of Failed = codes "irp_live: input or output failed"
+complaint_of RefusedHeader = codes "irp: transcript refused: line 1"
+complaint_of NoMemory = codes "irp: out of memory"
+complaint_of OtherWords = codes "irp: usage: irp live, or irp live --help"
+complaint_of Failed = codes "irp: input or output failed"

@@ -45,10 +45,10 @@ impl Ending {
     {
         match self {
             Ending::Done | Ending::Illegal => "",
-            Ending::RefusedHeader => "irp_live: transcript refused: line 1",
-            Ending::NoMemory => "irp_live: out of memory",
-            Ending::OtherWords => "irp_live: usage: irp_live, or irp_live --help",
-            Ending::Failed => "irp_live: input or output failed",
+            Ending::RefusedHeader => "irp: transcript refused: line 1",
+            Ending::NoMemory => "irp: out of memory",
+            Ending::OtherWords => "irp: usage: irp live, or irp live --help",
+            Ending::Failed => "irp: input or output failed",
         }
     }
 }

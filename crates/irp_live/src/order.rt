@@ -4,9 +4,9 @@ use irp_program::{Unasked, words_of};
 
 /// What `--help` prints.
 pub const HELP: &str = "\
-irp_live answers each line of standard input by a line, at once.
+irp live answers each line of standard input by a line, at once.
 
-Usage: irp_live < LINES
+Usage: irp live < LINES
 
 LINE                             ANSWER
 a transcript's header, first     null
@@ -19,7 +19,7 @@ CALL and entries are those of a transcript (docs/FORMATS.md).
 
 Example:
   $ printf '%s\\n' '{\"cancels\":[],\"completions\":[0,0,0,0,0],\"dispatches\":[],\"drivers\":[],\"form\":1,\"locks\":1,\"seats\":1}' \\
-      '{\"would\":{\"do\":\"allocate\",\"size\":17}}' | irp_live
+      '{\"would\":{\"do\":\"allocate\",\"size\":17}}' | irp live
   null
   \"BadSize\"
   legal 0

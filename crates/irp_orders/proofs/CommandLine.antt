@@ -1,41 +1,32 @@
 -- What comes of the words of a command line.
-use Rattle.std.proofs.Common.{◌≡◌, ◌⊎◌, ◌∙◌, inl, inr, ℕ, Bool, true, false, List, [], ◌∷◌, Option, Some, None, Result, Ok, Err, codes, refl, sym, subst, ap}
+use Rattle.std.proofs.Common.{◌≡◌, ◌⊎◌, ◌∙◌, inl, inr, ℕ, true, List, [], Option, Some, None, Result, Ok, Err, refl, sym, subst, ap}
 use Rattle.std.specs.Str.Parse.{ParsesUnsigned}
-use Rattle.clap.specs.Kinds.{HasKind, IsAmong, Kinds}
-use Rattle.clap.specs.Matches.{ReadsOne, one_text}
+use Rattle.clap.specs.Kinds.{HasKind}
+use Rattle.clap.specs.Matches.{ReadsOne, found_of, one_text}
 use Rattle.clap.specs.Simple.{App, HasMatchesOf}
 use Rattle.clap.specs.Values.{kind_of}
 use Rattle.clap.specs.Walk.{Row, rows_of}
-use Rattle.clap.specs.Words.{fault_of, found_of, is_simple, is_simple_and_free, matches_of}
+use Rattle.clap.specs.Words.{fault_of, is_simple, is_simple_and_free, matches_of}
 use Rattle.clap.specs.declared.error.Error.{Error}
-use Rattle.clap.specs.declared.error.kind.ErrorKind.{ErrorKind}
 use Rattle.clap.specs.declared.error.kind.ErrorKind.TheVariants.{OutOfMemory}
 use Rattle.clap.specs.declared.parser.matches.ArgMatches.{ArgMatches}
 use Rattle.clap.specs.declared.parser.matches.Found.{Found}
 use Rattle.clap.proofs.OnLiterals.{clap_on_literals}
 use Rattle.clap.proofs.WalkLemmas.{one_text-rows}
-use Rattle.irp_orders.specs.CommandLine.{AsksFor, AsksForOrMemory, FaultedBy, IsFlag, IsNumber, Makes, SaysFlag, SaysNumber, command_line}
+use Rattle.irp_command_line.proofs.Matching as found
+use Rattle.irp_orders.specs.CommandLine.{AsksForOrMemory, FaultedBy, IsNumber, Makes, SaysNumber, command_line}
 use Rattle.irp_orders.specs.declared.asked.Asked.{Asked}
 use Rattle.irp_orders.specs.declared.ending.Ending.{Ending}
 use Rattle.irp_orders.specs.declared.ending.Ending.TheVariants.{NoMemory}
 
--- ---- a word's flag, and its number
-
-pub flag_said : (found : Found) (name : List ℕ) (is_set : Bool) → (one_text found name ≡ None → is_set ≡ false)
-    → (one_text found name ≡ Some (codes "true") → is_set ≡ true)
-    → (one_text found name ≡ Some (codes "false") → is_set ≡ false) → SaysFlag (rows_of found) name is_set
-flag_said found name is_set none true_said false_said =
-    subst (λ (text : Option (List ℕ)). IsFlag text is_set) (one_text-rows found name) (by (one_text found name) refl)
-  where
-    by : (text : Option (List ℕ)) → one_text found name ≡ text → IsFlag text is_set
-    by None is = none is
-    by (Some text) is = (λ same. true_said (is ∙ ap Some same), λ same. false_said (is ∙ ap Some same))
+-- ---- a word's number
 
 number_read : {E : Type 0} (gives : List ℕ → Result ℕ E → Type 0)
     → ((text : List ℕ) (result : Result ℕ E) → gives text result → ParsesUnsigned 64 10 text result)
     → (text : List ℕ) (number : Option ℕ) → ReadsOne gives text number → IsNumber (Some text) number
-number_read gives weaker text None reads = λ number writes. weaker text (Err reads.0) reads.1 writes.0
-number_read gives weaker text (Some number) reads = weaker text (Ok number) reads
+number_read gives weaker text None reads = λ number writes. weaker text (Err reads.0) reads.1 (writes.0, writes.1)
+number_read gives weaker text (Some number) reads =
+    let writes = weaker text (Ok number) reads in (writes.0.0, writes.0.1, writes.1)
 
 pub number_said : {E : Type 0} (gives : List ℕ → Result ℕ E → Type 0)
     → ((text : List ℕ) (result : Result ℕ E) → gives text result → ParsesUnsigned 64 10 text result)
@@ -63,33 +54,17 @@ pub matched : (app : App) (words : List (List ℕ)) (matches : ArgMatches) (aske
     → HasMatchesOf app words matches → (is_simple_and_free app ≡ true → fault_of app words ≡ [])
     → Makes (rows_of (found_of matches)) asked
     → AsksForOrMemory (fault_of command_line words) (matches_of command_line words) asked
-matched app words matches asked app_is has free makes =
-    let found : rows_of (found_of matches) ≡ matches_of command_line words =
-    (has (ap is_simple app_is ∙ command_line_is_simple)).0 ∙ ap (λ (app : App). matches_of app words) app_is in
-    let none : fault_of command_line words ≡ [] =
-    ap (λ (app : App). fault_of app words) (sym app_is) ∙ free (ap is_simple_and_free app_is ∙ command_line_is_free) in
+matched app words matches asked app_is has faultless makes =
     inr
-    (subst (λ (faults : Kinds). AsksFor faults (matches_of command_line words) asked) (sym none)
-    (subst (λ (rows : List Row). Makes rows asked) found makes))
-
-faulted_by : (faults : Kinds) (rows : List Row) (kind : ErrorKind) (asked : Result Asked Ending) → IsAmong kind faults
-    → FaultedBy kind asked → AsksFor faults rows asked
-faulted_by [] rows kind asked among faulted = absurd among
-faulted_by (fault ∷ faults) rows kind asked among faulted = (kind, among, faulted)
+    (found.matched FaultedBy Makes command_line app words (matches_of command_line words) asked command_line_is_free app_is faultless
+    (subst (λ (rows : List Row). Makes rows asked)
+    (found.rows_are command_line app words matches command_line_is_simple app_is has) makes))
 
 -- and so is why it refused them
 pub faulted : (app : App) (words : List (List ℕ)) (error : Error) (asked : Result Asked Ending) → app ≡ command_line
     → (is_simple_and_free app ≡ true → HasKind (fault_of app words) error)
     → (kind_of error ≡ OutOfMemory → asked ≡ Err NoMemory) → (asked ≡ Err NoMemory) ⊎ FaultedBy (kind_of error) asked
     → AsksForOrMemory (fault_of command_line words) (matches_of command_line words) asked
-faulted app words error asked app_is kinds memory (inl none) = inl none
-faulted app words error asked app_is kinds memory (inr by) =
-    with_kind
-    (subst (λ (app : App). HasKind (fault_of app words) error) app_is
-    (kinds (ap is_simple_and_free app_is ∙ command_line_is_free)))
-  where
-    with_kind : HasKind (fault_of command_line words) error
-        → AsksForOrMemory (fault_of command_line words) (matches_of command_line words) asked
-    with_kind (inl none) = inl (memory none)
-    with_kind (inr among) =
-        inr (faulted_by (fault_of command_line words) (matches_of command_line words) (kind_of error) asked among by)
+faulted app words error asked app_is kinds memory by =
+    found.faulted FaultedBy Makes command_line app words (matches_of command_line words) asked (Err NoMemory) error
+    command_line_is_free app_is kinds memory by

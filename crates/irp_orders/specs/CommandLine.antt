@@ -3,8 +3,6 @@ use Rattle.std.specs.Prelude.{
   ℕ,
   ◌≡◌,
   ◌≢◌,
-  ◌<◌,
-  ◌^◌,
   ◌⊎◌,
   ⊤,
   Bool,
@@ -12,8 +10,6 @@ use Rattle.std.specs.Prelude.{
   false,
   codes,
   List,
-  [],
-  ◌∷◌,
   Option,
   Some,
   None,
@@ -22,15 +18,14 @@ use Rattle.std.specs.Prelude.{
   Err,
 }
 use Rattle.std.specs.Borrow.{Bor}
-use Rattle.std.specs.Option.{option_map}
-use Rattle.std.specs.Str.Parse.{IsNumeral, digits_value, without_leading_plus}
-use Rattle.clap.specs.Kinds.{IsAmong, Kinds}
+use Rattle.clap.specs.Kinds.{Kinds}
 use Rattle.clap.specs.Simple.{App, new_app, new_rule, with_rule}
 use Rattle.clap.specs.Walk.{Row, Rule, first_of, one_of}
-use Rattle.clap.specs.declared.builder.action.ArgAction.TheVariants.{Set, SetTrue}
+use Rattle.clap.specs.declared.builder.action.ArgAction.TheVariants.{Set}
 use Rattle.clap.specs.declared.builder.value_parser.ValueParser.TheVariants as parser
 use Rattle.clap.specs.declared.error.kind.ErrorKind.{ErrorKind}
 use Rattle.clap.specs.declared.error.kind.ErrorKind.TheVariants.{DisplayHelp}
+use Rattle.irp_command_line.specs.CommandLine.{AsksFor, SaysFlag, Writes, file_word, flag_option, text_in}
 use Rattle.irp_orders.specs.declared.asked.Asked.{Asked}
 use Rattle.irp_orders.specs.declared.asked.Asked.TheVariants.{Explore, Help}
 use Rattle.irp_orders.specs.declared.asked.Order.{Order}
@@ -40,10 +35,6 @@ use Rattle.irp_orders.specs.declared.ending.Ending.{Ending}
 use Rattle.irp_orders.specs.declared.ending.Ending.TheVariants.{NoMemory, NotBesideRight, OtherWords}
 
 -- ---- what clap is told
-
--- a word that stands alone, as `--groups`
-abbrev pub flag_option : List ℕ → Rule
-flag_option name = record (new_rule name) { long = Some name; action = Some SetTrue }
 
 -- a word with a number behind it, as `--states 1000`
 abbrev pub number_option : List ℕ → Rule
@@ -58,27 +49,12 @@ text_option name = record (new_rule name) { long = Some name; action = Some Set 
 abbrev pub command_line : App
 command_line =
     with_rule (with_rule (with_rule (with_rule (with_rule (with_rule (with_rule (with_rule
-    (new_app (codes "irp_orders")) (new_rule (codes "file")))
+    (new_app (codes "irp_orders")) file_word)
     (flag_option (codes "ends"))) (flag_option (codes "groups"))) (flag_option (codes "right")))
     (number_option (codes "states"))) (number_option (codes "outcomes"))) (number_option (codes "show")))
     (text_option (codes "never"))
 
 -- ---- what the words have, by the rows that clap finds in them
-
--- whether a word that stands alone is among them
-abbrev pub IsFlag : Option (List ℕ) → Bool → Type 0
-IsFlag None is_set = is_set ≡ false
-IsFlag (Some text) is_set =
-    (text ≡ codes "true" → is_set ≡ true) × (text ≡ codes "false" → is_set ≡ false)
-
-abbrev pub SaysFlag : List Row → List ℕ → Bool → Type 0
-SaysFlag rows name is_set = IsFlag (one_of name rows) is_set
-
--- a text writes a number: in digits, behind a plus or none, below 2^64
-abbrev pub Writes : List ℕ → ℕ → Type 0
-Writes text number =
-    (IsNumeral 10 (without_leading_plus text) × (digits_value 10 (without_leading_plus text) < 2 ^ 64))
-    × (number ≡ digits_value 10 (without_leading_plus text))
 
 -- the number behind a word; none where the word isn't among them, or no number stands behind it
 abbrev pub IsNumber : Option (List ℕ) → Option ℕ → Type 0
@@ -133,7 +109,7 @@ pub record MakesOrder (rows : List Row) (order : Order) : Type 0 where
 
 -- the name of a file, where the words have one
 abbrev pub NamesFile : List Row → Option (Bor (List ℕ)) → Type 0
-NamesFile rows file = option_map (λ (name : Bor (List ℕ)). name.now) file ≡ first_of (codes "file") rows
+NamesFile rows file = text_in file ≡ first_of (codes "file") rows
 
 -- why they make none: `--show` stands beside `--never`, or one of the other words beside `--right`
 abbrev pub MakesNone : List Row → Ending → Type 0
@@ -154,13 +130,6 @@ FaultedBy kind (Ok Help) = kind ≡ DisplayHelp
 FaultedBy kind (Err OtherWords) = kind ≢ DisplayHelp
 FaultedBy kind other = ⊥
 
-abbrev pub IsFaulted : Kinds → Result Asked Ending → Type 0
-IsFaulted faults asked = (kind : ErrorKind) × IsAmong kind faults × FaultedBy kind asked
-
 -- what words ask for, in which clap finds these faults, or none and these rows; or memory ran out
-abbrev pub AsksFor : Kinds → List Row → Result Asked Ending → Type 0
-AsksFor [] rows asked = Makes rows asked
-AsksFor (fault ∷ faults) rows asked = IsFaulted (fault ∷ faults) asked
-
 abbrev pub AsksForOrMemory : Kinds → List Row → Result Asked Ending → Type 0
-AsksForOrMemory faults rows asked = (asked ≡ Err NoMemory) ⊎ AsksFor faults rows asked
+AsksForOrMemory faults rows asked = (asked ≡ Err NoMemory) ⊎ AsksFor FaultedBy Makes faults rows asked

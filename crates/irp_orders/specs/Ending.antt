@@ -10,6 +10,10 @@ use Rattle.irp_streams.specs.declared.reading.StreamFault.{StreamFault}
 use Rattle.irp_streams.specs.declared.reading.StreamFault.TheVariants as stream
 use Rattle.irp_script_reader.specs.declared.refusal.ScriptFault.{ScriptFault}
 use Rattle.irp_script_reader.specs.declared.refusal.ScriptFault.TheVariants as script
+use Rattle.irp_program.specs.declared.opening.Unopened.{Unopened}
+use Rattle.irp_program.specs.declared.opening.Unopened.TheVariants as unopened
+use Rattle.irp_program.specs.declared.words.Unasked.{Unasked}
+use Rattle.irp_program.specs.declared.words.Unasked.TheVariants as unasked
 use Rattle.irp_orders.specs.declared.ending.Ending.{Ending}
 use Rattle.irp_orders.specs.declared.ending.Ending.TheVariants.{
   Done,
@@ -77,3 +81,13 @@ of_unheard stream.NoMemory = NoMemory
 abbrev pub of_refused : ScriptFault → Ending
 of_refused (script.Refused refusal) = RefusedScript refusal
 of_refused script.NoMemory = NoMemory
+
+-- other words, or want of memory for them
+abbrev pub of_words : Unasked → Ending
+of_words unasked.Usage = OtherWords
+of_words unasked.NoMemory = NoMemory
+
+-- a file that isn't opened
+abbrev pub of_unopened : Unopened → Ending
+of_unopened (unopened.NoFile name reason) = NoFile name reason
+of_unopened unopened.NoMemory = NoMemory

@@ -7,6 +7,7 @@ pub mod Facts
 pub mod Founds
 pub mod Judging
 pub mod Lines
+pub mod Obeying
 pub mod Program
 pub mod Right
 pub mod Rows

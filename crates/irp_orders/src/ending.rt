@@ -1,7 +1,17 @@
 //! How the program ends.
 
 ghost use Rattle.std.specs.Prelude.{◌≡◌};
-ghost use Rattle.irp_orders.specs.Ending.{has_line, of_refused, of_unfound, of_unheard, of_unmade, of_unread, status_of};
+ghost use Rattle.irp_orders.specs.Ending.{
+  has_line,
+  of_refused,
+  of_unfound,
+  of_unheard,
+  of_unmade,
+  of_unopened,
+  of_unread,
+  of_words,
+  status_of,
+};
 ghost use Rattle.irp_orders.specs.declared.ending.Ending.TheVariants.{NoMemory};
 
 use irp_condition::{ConditionFault, Unread};
@@ -96,31 +106,33 @@ impl fmt::Display for Ending {
     fn fmt<W: fmt::Write>(&self, f: &mut fmt::Formatter<W>) -> fmt::Result {
         match self {
             Ending::Done | Ending::Broken => Ok(()),
-            Ending::RefusedScript(refusal) => write!(f, "irp_orders: script refused: {refusal}"),
+            Ending::RefusedScript(refusal) => write!(f, "irp: script refused: {refusal}"),
             Ending::FaultyWords(lines) => f.write_str(without_last_newline(lines.as_str())),
             Ending::Differs => f.write_str(
-                "irp_orders: a fault of this program: the JSON isn't read as what the words say",
+                "irp: a fault of this program: the JSON isn't read as what the words say",
             ),
-            Ending::NoMemory => f.write_str("irp_orders: out of memory"),
-            Ending::Met(met) => write!(f, "irp_orders: {}", bound_words(*met)),
-            Ending::NoOrder => f.write_str("irp_orders: an order can't be made again"),
+            Ending::NoMemory => f.write_str("irp: out of memory"),
+            Ending::Met(met) => write!(f, "irp: {}", bound_words(*met)),
+            Ending::NoOrder => f.write_str("irp: an order can't be made again"),
             Ending::OtherWords => f.write_str(
-                "irp_orders: usage: irp_orders [--show K or --never CONDITION or --right] [FILE]; see irp_orders --help",
+                "irp: usage: irp orders [--show K or --never CONDITION or --right] [FILE]; see irp orders --help",
             ),
             Ending::NotBesideRight => f.write_str(
-                "irp_orders: --right stands without --show, --never and --ends; leave out the other word",
+                "irp: --right stands without --show, --never and --ends; leave out the other word",
             ),
-            Ending::RefusedCondition(fault) => write!(f, "irp_orders: condition refused: {fault}"),
-            Ending::NoOutcome(count) => write!(f, "irp_orders: outcomes are numbered 1 to {count}"),
+            Ending::RefusedCondition(fault) => write!(f, "irp: condition refused: {fault}"),
+            Ending::NoOutcome(count) => write!(f, "irp: outcomes are numbered 1 to {count}"),
             Ending::NoFile { name, reason } => {
-                write!(f, "irp_orders: {name}: can't be opened: {reason}")
+                write!(f, "irp: {name}: can't be opened: {reason}")
             }
-            Ending::Failed => f.write_str("irp_orders: input or output failed"),
+            Ending::Failed => f.write_str("irp: input or output failed"),
         }
     }
 }
 
 impl From<Unasked> for Ending {
+    ghost from_gives = { λ given ending. ending ≡ of_words given };
+
     fn from(given: Unasked) -> Ending {
         match given {
             Unasked::Usage => Ending::OtherWords,
@@ -130,6 +142,8 @@ impl From<Unasked> for Ending {
 }
 
 impl From<Unopened> for Ending {
+    ghost from_gives = { λ given ending. ending ≡ of_unopened given };
+
     fn from(given: Unopened) -> Ending {
         match given {
             Unopened::NoFile { name, reason } => Ending::NoFile { name, reason },

@@ -1,20 +1,23 @@
 //! The help.
 
+ghost use Rattle.irp_orders.specs.Program.{IsSent};
+ghost use Rattle.irp_orders.specs.declared.ending.Ending.TheVariants.{Done};
+
 use crate::answering::send_text;
 use crate::ending::Ending;
 use irp_streams::Out;
 
 /// What the help says.
 const HELP: &str = "\
-irp_orders explores every order in which the seats of a script can make their steps, and tells how they end.
+irp orders explores every order in which the seats of a script can make their steps, and tells how they end.
 
-Usage: irp_orders [--ends] [--groups] [--states N] [--outcomes N] [FILE]
-       irp_orders --show K [..] [FILE]
-       irp_orders --never CONDITION [..] [FILE]
-       irp_orders --right [..] [FILE]
+Usage: irp orders [--ends] [--groups] [--states N] [--outcomes N] [FILE]
+       irp orders --show K [..] [FILE]
+       irp orders --never CONDITION [..] [FILE]
+       irp orders --right [..] [FILE]
 
 The script is read from FILE, or from standard input. A file whose name ends with .words holds words, as irp_words reads
-them. Without --show, --never and --right, irp_orders prints a table of the outcomes, the most frequent first: how many
+them. Without --show, --never and --right, irp orders prints a table of the outcomes, the most frequent first: how many
 orders end so, the replies in which outcomes differ, the live packets, the remove locks and the cancel slots.
 
   --show K           prints a transcript that leads to outcome K
@@ -38,13 +41,15 @@ Exit status: 0 done (--never: it never holds; --right: every order is right), 1 
 in an order, --right: one isn't right, 3 out of memory or a bound is met, 4 other words, 5 input or output failed.
 
 Examples:
-  irp_orders examples/recipes/a_cancel_race.script
-  irp_orders --show 2 examples/recipes/a_cancel_race.script | irp_view text
-  irp_orders --never 'live(a) and owner(a) != ended' my.script
-  irp_orders --right my.words
+  irp orders examples/recipes/a_cancel_race.script
+  irp orders --show 2 examples/recipes/a_cancel_race.script | irp text
+  irp orders --never 'live(a) and owner(a) != ended' my.script
+  irp orders --right my.words
 ";
 
 /// Writes the help.
-pub fn help<O: Out>(output: &mut O) -> Ending {
+pub fn help<O: Out>(output: &mut O) -> Ending
+    ensures { IsSent Done result }
+{
     send_text(output, HELP.as_bytes(), Ending::Done)
 }

@@ -21,7 +21,7 @@ use crate::right::is_right;
 use crate::steps::put_in_order;
 use crate::such::put_such;
 use crate::table::{put_end, put_head};
-use crate::text::tell;
+use crate::text::{put_orders, put_outcomes, tell};
 use crate::wrongs::put_wrongs;
 use irp_condition::Condition;
 use irp_machine::NotMade;
@@ -207,9 +207,11 @@ fn told_kept(
         Question::Never(_) => "never: it holds in none of ",
         Question::Right(_) => "right: ",
     };
-    tell(&mut out, words, orders_of(founds));
-    tell(&mut out, " orders, ", founds.len());
-    out.put(" outcomes\n");
+    out.put(words);
+    put_orders(&mut out, orders_of(founds));
+    out.put(", ");
+    put_outcomes(&mut out, founds.len());
+    out.put("\n");
     Ok(out.finish()?.into_bytes())
 }
 
@@ -221,10 +223,12 @@ fn put_counts(out: &mut Sink, founds: &[Found], question: Question<'_>, marks: &
         Question::Right(_) => "not right in ",
     };
     tell(out, words, orders);
-    tell(out, " of ", orders_of(founds));
-    tell(out, " orders, ", outcomes);
-    tell(out, " of ", founds.len());
-    out.put(" outcomes; one of them:\n");
+    out.put(" of ");
+    put_orders(out, orders_of(founds));
+    tell(out, ", ", outcomes);
+    out.put(" of ");
+    put_outcomes(out, founds.len());
+    out.put("; one of them:\n");
 }
 
 /// These lines, with those of the outcome at a place, which shows that what is asked is broken, and why.

@@ -26,6 +26,10 @@ mod text;
 mod words;
 mod wrongs;
 
+ghost use Rattle.std.specs.Prelude.{◌≡◌, map, string_bytes};
+ghost use Rattle.irp_command_line.specs.CommandLine.{text_in};
+ghost use Rattle.irp_orders.specs.Obeying.{ExploresIn, ObeysWords, is_in_words};
+
 use crate::answering::explore;
 use crate::asked::{Asked, Order};
 use crate::ending::Ending;
@@ -35,35 +39,52 @@ use irp_streams::{Out, WriterOut};
 use std::io;
 use std::process::ExitCode;
 
+/// Whether a file's name says that its script is in words.
+fn is_in_words(file: Option<&str>) -> bool
+    ensures { result ≡ is_in_words (text_in file.entry) }
+{
+    match file {
+        Some(name) => name.as_bytes().ends_with(b".words"),
+        None => false,
+    }
+}
+
 /// Tells what is asked of the script in the file, or in standard input.
 fn explore_in<O: Out>(
     rt: &HostRuntime,
     output: &mut O,
     order: &Order<'_>,
     file: Option<&str>,
-) -> Ending {
+) -> Ending
+    ensures { ExploresIn order.now file.entry (O.gone output.old) (O.gone output.new) result }
+{
     let mut input = match open_input(rt, file) {
         Ok(input) => input,
         Err(unopened) => return Ending::from(unopened),
     };
-    match file {
-        Some(name) if name.ends_with(".words") => {
-            explore_words(rt.alloc(), &mut input, output, order)
-        }
-        _ => explore(rt.alloc(), &mut input, output, order),
+    if is_in_words(file) {
+        explore_words(rt.alloc(), &mut input, output, order)
+    } else {
+        explore(rt.alloc(), &mut input, output, order)
     }
 }
 
-/// Does what the words ask for.
-fn obey<O: Out>(rt: &HostRuntime, output: &mut O) -> Ending {
-    let words = match words_of(rt) {
-        Ok(words) => words,
-        Err(unasked) => return Ending::from(unasked),
-    };
-    match words::asked(rt.alloc(), words.as_slice()) {
+/// Does what these words ask for; the first is the program's name.
+fn obey_words<O: Out>(rt: &HostRuntime, output: &mut O, words: &[String]) -> Ending
+    ensures { ObeysWords (map string_bytes words.now) (O.gone output.old) (O.gone output.new) result }
+{
+    match words::asked(rt.alloc(), words) {
         Ok(Asked::Help) => help::help(output),
         Ok(Asked::Explore { order, file }) => explore_in(rt, output, &order, file),
         Err(ending) => ending,
+    }
+}
+
+/// Does what the words ask for that the program was given.
+fn obey<O: Out>(rt: &HostRuntime, output: &mut O) -> Ending {
+    match words_of(rt) {
+        Ok(words) => obey_words(rt, output, words.as_slice()),
+        Err(unasked) => Ending::from(unasked),
     }
 }
 

@@ -9,7 +9,7 @@ use crate::columns::Columns;
 use crate::ends::{names, put_device, put_label, put_lock, put_packet, put_slot};
 use crate::found::Found;
 use crate::steps::put_differing_in_order;
-use crate::text::tell;
+use crate::text::{put_orders, tell};
 use irp_machine::{DeviceEnd, End, LiveEnd, LockEnd, NotMade, SlotEnd};
 use irp_names::Sink;
 use irp_types::IrpRef;
@@ -44,8 +44,8 @@ fn put_joined(out: &mut Sink, joined: usize) {
 pub fn put_head(out: &mut Sink, whole: u128, number: usize, found: &Found) {
     tell(out, "outcome ", number);
     tell(out, ": ", found.orders);
-    tell(out, " of ", whole);
-    out.put(" orders");
+    out.put(" of ");
+    put_orders(out, whole);
     put_share(out, found.orders, whole);
     put_joined(out, found.joined);
     out.put("\n");
@@ -172,8 +172,9 @@ fn put_row(
 /// Puts the first line of the table: how many outcomes there are, of how many orders.
 fn put_table_head(out: &mut Sink, outcomes: usize, orders: u128) {
     tell(out, "outcomes: ", outcomes);
-    tell(out, ", of ", orders);
-    out.put(" orders\n");
+    out.put(", of ");
+    put_orders(out, orders);
+    out.put("\n");
 }
 
 /// The table of these outcomes, in their order: how many there are of how many orders, and of each how many orders lead to

@@ -1,10 +1,9 @@
 //! What the command line asks for.
 
 ghost use Rattle.std.specs.Prelude.{◌≡◌, ◌≢◌, ◌⊎◌, Err, IfErr, IfOk, codes, false, map, true};
-ghost use Rattle.std.specs.Option.{option_map};
-ghost use Rattle.clap.specs.Matches.{found_of};
 ghost use Rattle.clap.specs.Values.{kind_of};
-ghost use Rattle.clap.specs.Words.{app_of, fault_of, first_of, matches_of, rows_of, rule_of};
+ghost use Rattle.clap.specs.Words.{app_of, fault_of, first_of, matches_of};
+ghost use Rattle.irp_command_line.specs.CommandLine.{IsOption, SaysFlag, rows_in, text_in};
 ghost use Rattle.irp_orders.specs.CommandLine.{
   AsksBoth,
   AsksForOrMemory,
@@ -13,11 +12,9 @@ ghost use Rattle.irp_orders.specs.CommandLine.{
   Makes,
   MakesNone,
   MakesTask,
-  SaysFlag,
   SaysNumber,
   SaysNumberOr,
   command_line,
-  flag_option,
   number_option,
   text_option,
 };
@@ -26,6 +23,7 @@ use crate::asked::{Asked, Order, Task};
 use crate::ending::Ending;
 use clap::error::ErrorKind;
 use clap::{Arg, ArgAction, ArgMatches, Command, Error, value_parser};
+use irp_command_line::{flag, is_set};
 use std::alloc::{AllocError, Global};
 use std::convert::AsStr;
 
@@ -35,18 +33,9 @@ const MOST_STATES: usize = 500_000;
 /// How many outcomes there may be where the words don't say.
 const MOST_OUTCOMES: usize = 20_000;
 
-/// A word that stands alone, as `--groups`.
-fn flag<'a>(alloc: Global, name: &'a str) -> Arg<'a>
-    ensures rule { rule_of result ≡ flag_option name.entry.now }
-    ensures narrow { result.global ≡ false }
-{
-    Arg::new(alloc, name).long(name).action(ArgAction::SetTrue)
-}
-
 /// A word with a number behind it, as `--states 1000`.
 fn number<'a>(alloc: Global, name: &'a str) -> Arg<'a>
-    ensures rule { rule_of result ≡ number_option name.entry.now }
-    ensures narrow { result.global ≡ false }
+    ensures { IsOption (number_option name.entry.now) result }
 {
     Arg::new(alloc, name)
         .long(name)
@@ -55,8 +44,7 @@ fn number<'a>(alloc: Global, name: &'a str) -> Arg<'a>
 
 /// The text of `--never`.
 fn never<'a>(alloc: Global) -> Arg<'a>
-    ensures rule { rule_of result ≡ text_option (codes "never") }
-    ensures narrow { result.global ≡ false }
+    ensures { IsOption (text_option (codes "never")) result }
 {
     Arg::new(alloc, "never")
         .long("never")
@@ -77,33 +65,25 @@ fn command<'a>(alloc: Global) -> Result<Command<'a>, AllocError>
     command.arg(never(alloc))
 }
 
-/// Whether a word that stands alone is among the words.
-fn is_set(matches: &ArgMatches<'_>, name: &str) -> bool
-    ensures { SaysFlag (rows_of (found_of matches.now)) name.now result }
-{
-    matches.get_flag(name)
-}
-
 /// The number behind a word, where the word is among the words.
 fn number_behind(matches: &ArgMatches<'_>, name: &str) -> Option<u64>
-    ensures { SaysNumber (rows_of (found_of matches.now)) name.now result }
+    ensures { SaysNumber (rows_in matches.now) name.now result }
 {
     matches.get_one::<u64>(name)
 }
 
 /// The text behind a word, where the word is among the words.
 fn text_behind<'a>(matches: &ArgMatches<'a>, name: &str) -> Option<&'a str>
-    ensures { option_map (λ text. text.now) result
-        ≡ first_of name.now (rows_of (found_of matches.now)) }
+    ensures { text_in result ≡ first_of name.now (rows_in matches.now) }
 {
     matches.get_str(name)
 }
 
 /// What is to be told beside the table: one thing at most.
 fn task_of<'a>(matches: &ArgMatches<'a>) -> Result<Task<'a>, Ending>
-    ensures task { IfOk result (AsksTask (rows_of (found_of matches.now))) }
+    ensures task { IfOk result (AsksTask (rows_in matches.now)) }
     ensures both { IfErr result (λ ending.
-        (ending ≡ Ending.OtherWords) × AsksBoth (rows_of (found_of matches.now))) }
+        (ending ≡ Ending.OtherWords) × AsksBoth (rows_in matches.now)) }
 {
     match (
         number_behind(matches, "show"),
@@ -135,10 +115,10 @@ fn asked_task<'a>(
     is_right: bool,
     by_ends: bool,
 ) -> Result<Task<'a>, Ending>
-    requires right { SaysFlag (rows_of (found_of matches.now)) (codes "right") is_right }
-    requires ends { SaysFlag (rows_of (found_of matches.now)) (codes "ends") by_ends }
-    ensures task { IfOk result (MakesTask (rows_of (found_of matches.now)) is_right by_ends) }
-    ensures none { IfErr result (MakesNone (rows_of (found_of matches.now))) }
+    requires right { SaysFlag (rows_in matches.now) (codes "right") is_right }
+    requires ends { SaysFlag (rows_in matches.now) (codes "ends") by_ends }
+    ensures task { IfOk result (MakesTask (rows_in matches.now) is_right by_ends) }
+    ensures none { IfErr result (MakesNone (rows_in matches.now)) }
 {
     let task = task_of(matches)?;
     if is_right {
@@ -149,7 +129,7 @@ fn asked_task<'a>(
 
 /// The number behind a word, or this one where the word isn't there.
 fn number_of(matches: &ArgMatches<'_>, name: &str, missing: usize) -> usize
-    ensures { SaysNumberOr (rows_of (found_of matches.now)) name.now missing result }
+    ensures { SaysNumberOr (rows_in matches.now) name.now missing result }
 {
     match number_behind(matches, name) {
         Some(number) => number as usize,
@@ -159,7 +139,7 @@ fn number_of(matches: &ArgMatches<'_>, name: &str, missing: usize) -> usize
 
 /// What clap's matches ask for.
 fn asked_of<'a>(matches: &ArgMatches<'a>) -> Result<Asked<'a>, Ending>
-    ensures { Makes (rows_of (found_of matches.now)) result }
+    ensures { Makes (rows_in matches.now) result }
 {
     let by_ends = is_set(matches, "ends");
     let is_right = is_set(matches, "right");

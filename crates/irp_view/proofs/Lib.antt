@@ -1,4 +1,5 @@
 pub mod CommandLine
+pub mod Cuts
 pub mod Drawn
 pub mod Gathered
 pub mod Judged
@@ -7,4 +8,3 @@ pub mod Pieces
 pub mod RefusedCalls
 pub mod Rows
 pub mod Said
-pub mod Spans

@@ -2,6 +2,7 @@ pub mod Blocks
 pub mod CommandLine
 pub mod Drafts
 pub mod Ending
+pub mod Joined
 pub mod Judging
 pub mod Listed
 pub mod Parts
@@ -12,5 +13,6 @@ pub mod Refusals
 pub mod RefusedCalls
 pub mod Sections
 pub mod Showing
+pub mod Spans
 pub mod Streams
 pub mod Telling

@@ -1,20 +1,29 @@
 -- What the program does for its words.
-use Rattle.std.specs.Prelude.{ℕ, ◌≡◌, ◌⊎◌, List, MatchResult, Option, Result}
+use Rattle.std.specs.Prelude.{ℕ, ◌≡◌, ◌⊎◌, Err, false, List, MatchResult, None, Ok, Option, Result, Some}
+use Rattle.std.specs.Borrow.{Bor}
+use Rattle.clap.specs.Words.{fault_of, subcommand_of}
 use Rattle.irp_transcript.specs.Transcripts.{TranscriptValue}
 use Rattle.irp_judge.specs.Checked.{IsExplained}
 use Rattle.irp_judge.specs.declared.verdict.Verdict.{Verdict}
 use Rattle.irp_judge.specs.declared.verdict.Wrong.{Wrong}
 use Rattle.irp_feed.specs.Feeding.{HoldsNone}
-use Rattle.irp_feed.specs.Input.{Holds}
+use Rattle.irp_feed.specs.Input.{Bytes, Holds}
 use Rattle.irp_streams.specs.Writing.{BreaksOff, IsQuiet, Written}
 use Rattle.irp_streams.specs.declared.reading.StreamFault.{StreamFault}
 use Rattle.irp_page.specs.Drawing.{Draws, DrawsPart}
-use Rattle.irp_view.specs.Ending.{ending_of, of_unread, of_unwritten, of_verdict}
+use Rattle.irp_program.specs.Opening.{IsUnopened}
+use Rattle.irp_program.specs.declared.opening.Unopened.{Unopened}
+use Rattle.irp_program.specs.declared.words.Unasked.{Unasked}
+use Rattle.irp_program.specs.declared.words.Unasked.TheVariants.{NoMemory}
+use Rattle.irp_view.specs.CommandLine.{AsksForOrMemory, command_line}
+use Rattle.irp_view.specs.Ending.{ending_of, of_unopened, of_unread, of_unwritten, of_verdict, of_words}
+use Rattle.irp_view.specs.Joined.{ArePut}
 use Rattle.irp_view.specs.Listed.{BreaksAt, Chosen, StopsAt, chosen_of}
 use Rattle.irp_view.specs.Reading.{line_of}
 use Rattle.irp_view.specs.Showing.{Shows}
-use Rattle.irp_view.specs.Streams.{Output, Streams}
+use Rattle.irp_view.specs.Streams.{Output, Streams, streams_of}
 use Rattle.irp_view.specs.Telling.{Says, SaysNothing}
+use Rattle.irp_view.specs.declared.orders.Asked.{Asked}
 use Rattle.irp_view.specs.declared.ending.Ending.{Ending}
 use Rattle.irp_view.specs.declared.ending.Ending.TheVariants.{Done}
 use Rattle.irp_view.specs.declared.orders.Order.{Order}
@@ -79,3 +88,36 @@ Obeys (Read (Listing only span)) before after ending =
     ⊎ (ShowsBefore (chosen_of only span) before after ending
     ⊎ BreaksBefore (chosen_of only span) before after ending)
 Obeys (Read task) before after ending = AnswersRead task before after ending ⊎ ReadsNone before after ending
+
+-- nothing went out, and this is how it ends
+abbrev pub EndsWith : Ending → Output → Output → Ending → Type 0
+EndsWith fault before after ending =
+    (ending ≡ fault) × IsQuiet before.gone after.gone before.failures after.failures
+
+-- the file of this name isn't opened
+abbrev pub OpensNone : Option (Bor (List ℕ)) → Output → Output → Ending → Type 0
+OpensNone None before after ending = ⊥
+OpensNone (Some name) before after ending =
+    (unopened : Unopened) × IsUnopened name.now unopened × EndsWith (of_unopened unopened) before after ending
+
+-- what is asked for is done, with the file that is named or with standard input; or the file isn't opened
+abbrev pub ObeysOn : Asked → Output → Output → Ending → Type 0
+ObeysOn asked before after ending =
+    ((left rest : Bytes) × Obeys asked.order (streams_of left before) (streams_of rest after) ending)
+    ⊎ OpensNone asked.file before after ending
+
+abbrev pub ObeysAsked : Result Asked Unasked → Output → Output → Ending → Type 0
+ObeysAsked (Ok asked) before after ending = ObeysOn asked before after ending
+ObeysAsked (Err unasked) before after ending = EndsWith (of_words unasked) before after ending
+
+-- what the words ask for is done, once a use of a packet that stands in one of them is two words
+pub record ObeysParted (words : List (List ℕ)) (before after : Output) (ending : Ending) : Type 0 where
+  pub parted : List (List ℕ)
+  pub are_put : ArePut false words parted
+  pub asked : Result Asked Unasked
+  pub asks : AsksForOrMemory (fault_of command_line parted) (subcommand_of command_line parted) asked
+  pub obeys : ObeysAsked asked before after ending
+
+abbrev pub ObeysWords : List (List ℕ) → Output → Output → Ending → Type 0
+ObeysWords words before after ending =
+    EndsWith (of_words NoMemory) before after ending ⊎ ObeysParted words before after ending

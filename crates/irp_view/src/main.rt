@@ -9,6 +9,7 @@ mod drawing;
 mod ending;
 mod fields;
 mod help;
+mod joined;
 mod judging;
 mod listing;
 mod orders;
@@ -19,10 +20,12 @@ mod refused_calls;
 mod rules;
 mod sections;
 mod showing;
+mod spans;
 mod why;
 mod words;
 
-ghost use Rattle.irp_view.specs.Program.{Answers, Obeys};
+ghost use Rattle.std.specs.Prelude.{map, string_bytes};
+ghost use Rattle.irp_view.specs.Program.{Answers, Obeys, ObeysOn, ObeysWords};
 ghost use Rattle.irp_view.specs.Streams.{output_of, streams_of};
 ghost use Rattle.irp_view.specs.Judging.{IsFound};
 ghost use Rattle.irp_feed.specs.Input.{TakesAtMost, most_taken};
@@ -36,7 +39,7 @@ use crate::judging::{Judged, judge_input};
 use crate::listing::show_transcript;
 use crate::orders::{Asked, Order, Span, Task};
 use irp_page::{Choice, Draft};
-use irp_program::{Unasked, open_input, stop, words_of};
+use irp_program::{open_input, stop, words_of};
 use irp_streams::{Out, WriterOut};
 use irp_types::IrpRef;
 use std::alloc::Global;
@@ -132,7 +135,10 @@ fn run<R: Read, O: Out>(
 }
 
 /// Does what is asked for, with the file or with standard input.
-fn run_on<O: Out>(rt: &HostRuntime, output: &mut O, asked: Asked<'_>) -> Ending {
+fn run_on<O: Out>(rt: &HostRuntime, output: &mut O, asked: Asked<'_>) -> Ending
+    ensures { ObeysOn asked.entry (output_of (O.gone output.old) (O.failures output.old))
+        (output_of (O.gone output.new) (O.failures output.new)) result }
+{
     let title = asked.file.unwrap_or("a history");
     match open_input(rt, asked.file) {
         Ok(mut input) => run(rt.alloc(), &mut input, output, asked.order, title),
@@ -140,20 +146,25 @@ fn run_on<O: Out>(rt: &HostRuntime, output: &mut O, asked: Asked<'_>) -> Ending 
     }
 }
 
-/// The words that the program was given, where a use of a packet is two words.
-fn parted_words(rt: &HostRuntime) -> Result<Vec<String>, Unasked> {
-    let words = words_of(rt)?;
-    Ok(words::with_uses(rt.alloc(), words.as_slice())?)
+/// Does what these words ask for; the first is the program's name.
+fn obey_words<O: Out>(rt: &HostRuntime, output: &mut O, words: &[String]) -> Ending
+    ensures { ObeysWords (map string_bytes words.now)
+        (output_of (O.gone output.old) (O.failures output.old))
+        (output_of (O.gone output.new) (O.failures output.new)) result }
+{
+    let Ok(parted) = joined::with_uses(rt.alloc(), words) else {
+        return Ending::NoMemory;
+    };
+    match words::asked(rt.alloc(), parted.as_slice()) {
+        Ok(asked) => run_on(rt, output, asked),
+        Err(unasked) => Ending::from(unasked),
+    }
 }
 
-/// Does what the words ask for.
+/// Does what the words ask for that the program was given.
 fn obey<O: Out>(rt: &HostRuntime, output: &mut O) -> Ending {
-    let words = match parted_words(rt) {
-        Ok(words) => words,
-        Err(unasked) => return Ending::from(unasked),
-    };
-    match words::asked(rt.alloc(), words.as_slice()) {
-        Ok(asked) => run_on(rt, output, asked),
+    match words_of(rt) {
+        Ok(words) => obey_words(rt, output, words.as_slice()),
         Err(unasked) => Ending::from(unasked),
     }
 }

@@ -58,10 +58,10 @@ complaint_of Done = Some (codes "")
 complaint_of Faulty = Some (codes "")
 complaint_of Warned = Some (codes "")
 complaint_of Differs =
-    Some (codes "irp_words: a fault of this program: the JSON isn't read as what the words say")
-complaint_of NoMemory = Some (codes "irp_words: out of memory")
+    Some (codes "irp: a fault of this program: the JSON isn't read as what the words say")
+complaint_of NoMemory = Some (codes "irp: out of memory")
 complaint_of OtherWords =
-    Some (codes "irp_words: usage: irp_words json, words or faults [FILE], or tables; see --help")
+    Some (codes "irp: usage: irp words json, words or faults [FILE], or tables; see irp words --help")
 complaint_of (NoFile name reason) =
-    Some (codes "irp_words: " ++ (string_bytes name ++ (codes ": can't be opened: " ++ reason_text reason)))
-complaint_of Failed = Some (codes "irp_words: input or output failed")
+    Some (codes "irp: " ++ (string_bytes name ++ (codes ": can't be opened: " ++ reason_text reason)))
+complaint_of Failed = Some (codes "irp: input or output failed")

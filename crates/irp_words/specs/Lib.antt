@@ -1,2 +1,4 @@
+pub mod CommandLine
 pub mod Ending
+pub mod Program
 pub mod Telling

@@ -61,16 +61,16 @@ impl fmt::Display for Ending {
         match self {
             Ending::Done | Ending::Faulty | Ending::Warned => Ok(()),
             Ending::Differs => f.write_str(
-                "irp_words: a fault of this program: the JSON isn't read as what the words say",
+                "irp: a fault of this program: the JSON isn't read as what the words say",
             ),
-            Ending::NoMemory => f.write_str("irp_words: out of memory"),
+            Ending::NoMemory => f.write_str("irp: out of memory"),
             Ending::OtherWords => f.write_str(
-                "irp_words: usage: irp_words json, words or faults [FILE], or tables; see --help",
+                "irp: usage: irp words json, words or faults [FILE], or tables; see irp words --help",
             ),
             Ending::NoFile { name, reason } => {
-                write!(f, "irp_words: {name}: can't be opened: {reason}")
+                write!(f, "irp: {name}: can't be opened: {reason}")
             }
-            Ending::Failed => f.write_str("irp_words: input or output failed"),
+            Ending::Failed => f.write_str("irp: input or output failed"),
         }
     }
 }

@@ -1,17 +1,21 @@
 //! The help.
 
+ghost use Rattle.std.specs.Prelude.{List, ℕ};
+ghost use Rattle.irp_words.specs.Telling.{IsSent};
+ghost use Rattle.irp_words.specs.declared.ending.Ending.TheVariants.{Done};
+
 use crate::ending::Ending;
 use crate::telling::send_text;
 use irp_streams::Out;
 
 /// What the help says.
 const HELP: &str = "\
-irp_words takes scripts as people write them: a step a line, with names, comments and hexadecimal numbers.
+irp words takes scripts as people write them: a step a line, with names, comments and hexadecimal numbers.
 
-Usage: irp_words json [FILE]
-       irp_words words [FILE]
-       irp_words faults [--strict] [FILE]
-       irp_words tables
+Usage: irp words json [FILE]
+       irp words words [FILE]
+       irp words faults [--strict] [FILE]
+       irp words tables
 
 The text is read from FILE, or from standard input.
 
@@ -29,12 +33,14 @@ memory, 4 other words, 5 input or output failed. What is wrong is printed on sta
 output.
 
 Examples:
-  irp_words json my.words | irpx run
-  irp_words words examples/recipes/a_cancel_race.script > race.words
-  irp_words faults my.words
+  irp words json my.words | irp run
+  irp words words examples/recipes/a_cancel_race.script > race.words
+  irp words faults my.words
 ";
 
 /// Writes the help.
-pub fn help<O: Out>(output: &mut O) -> Ending {
+pub fn help<O: Out>(output: &mut O) -> Ending
+    ensures { (text : List ℕ) × IsSent text Done (O.gone output.old) (O.gone output.new) result }
+{
     send_text(output, HELP.as_bytes(), Ending::Done)
 }

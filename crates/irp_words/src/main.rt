@@ -1,13 +1,15 @@
 //! The program for scripts as people write them: words to JSON, JSON to words, and what is wrong with either.
 #![tactic(auto)]
 
-mod command_line;
 mod ending;
 mod help;
 mod orders;
 mod tables;
 mod telling;
+mod words;
 
+ghost use Rattle.std.specs.Prelude.{map, string_bytes};
+ghost use Rattle.irp_words.specs.Program.{DoesOn, ObeysWords};
 ghost use Rattle.irp_words.specs.Telling.{Obeys};
 
 use crate::ending::Ending;
@@ -46,7 +48,9 @@ fn run_on<O: Out, E: Out>(
     output: &mut O,
     errors: &mut E,
     asked: Asked<'_>,
-) -> Ending {
+) -> Ending
+    ensures { DoesOn asked.entry (O.gone output.old) (O.gone output.new) result }
+{
     let task = match asked.order {
         Order::Help => return help::help(output),
         Order::Tables => return tables::tell_tables(rt.alloc(), output),
@@ -58,14 +62,25 @@ fn run_on<O: Out, E: Out>(
     }
 }
 
-/// Does what the words ask for.
-fn obey<O: Out, E: Out>(rt: &HostRuntime, output: &mut O, errors: &mut E) -> Ending {
-    let words = match words_of(rt) {
-        Ok(words) => words,
-        Err(unasked) => return Ending::from(unasked),
-    };
-    match command_line::asked(rt.alloc(), words.as_slice()) {
+/// Does what these words ask for; the first is the program's name.
+fn obey_words<O: Out, E: Out>(
+    rt: &HostRuntime,
+    output: &mut O,
+    errors: &mut E,
+    words: &[String],
+) -> Ending
+    ensures { ObeysWords (map string_bytes words.now) (O.gone output.old) (O.gone output.new) result }
+{
+    match words::asked(rt.alloc(), words) {
         Ok(asked) => run_on(rt, output, errors, asked),
+        Err(unasked) => Ending::from(unasked),
+    }
+}
+
+/// Does what the words ask for that the program was given.
+fn obey<O: Out, E: Out>(rt: &HostRuntime, output: &mut O, errors: &mut E) -> Ending {
+    match words_of(rt) {
+        Ok(words) => obey_words(rt, output, errors, words.as_slice()),
         Err(unasked) => Ending::from(unasked),
     }
 }

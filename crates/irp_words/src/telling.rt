@@ -39,7 +39,7 @@ fn tell_untold<E: Out>(alloc: Global, errors: &mut E, untold: Untold<'_>) -> End
 fn tell_refused<E: Out>(alloc: Global, errors: &mut E, fault: ScriptFault) -> Ending {
     match fault {
         ScriptFault::Refused(refusal) => match format!(in alloc;
-            "irp_words: script refused: {refusal}\n"
+            "irp: script refused: {refusal}\n"
         ) {
             Ok(line) => send_text(errors, line.as_bytes(), Ending::Faulty),
             Err(_) => Ending::NoMemory,

@@ -1,8 +1,14 @@
--- Words in which clap finds no fault are refused for want of memory alone.
-use Rattle.std.proofs.Common.{inr}
-use Rattle.irp_view.proofs.CommandLine.{memory_alone}
+-- What clap finds in the words says what comes of them.
+use Rattle.irp_view.proofs.CommandLine.{faulted, matched}
 use Rattle.irp_view.proofs.words.asked.Goals as goal
 
-pub returns-in-Err-clause-finds : goal.returns-in-Err-clause-finds
-returns-in-Err-clause-finds g c name rows found =
-    inr (c.asked_by.ensures.memory (memory_alone _ _ c.in-Err.error c.in-Ok.ensures found.0 c.in-Err.ensures.kinds))
+pub returns-in-Ok-try_get_matches_from : goal.returns-in-Ok-try_get_matches_from
+returns-in-Ok-try_get_matches_from g c =
+    matched _ _ c.in-Ok-try_get_matches_from.matches c.asked_of.result c.in-Ok.ensures c.in-Ok-try_get_matches_from.ensures.matches
+    c.in-Ok-try_get_matches_from.ensures.kinds
+    c.asked_of.ensures.reads c.asked_of.ensures.none
+
+pub returns-in-Err : goal.returns-in-Err
+returns-in-Err g c =
+    faulted _ _ c.in-Err.error c.asked_by.result c.in-Ok.ensures c.in-Err.ensures.kinds c.asked_by.ensures.memory
+    c.asked_by.ensures.faulted

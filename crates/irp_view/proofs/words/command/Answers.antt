@@ -5,7 +5,7 @@ use Rattle.clap.specs.Simple.{App, new_app, on_top}
 use Rattle.clap.specs.Words.{AddsSubcommand, app_of}
 use Rattle.clap.specs.declared.builder.command.Command.{Command}
 use Rattle.irp_view.specs.CommandLine.{command_line, packet_line, page_line, text_line, why_line}
-use Rattle.irp_view.proofs.CommandLine.{adds_line}
+use Rattle.irp_command_line.proofs.Matching.{adds_line}
 use Rattle.irp_view.proofs.words.command.Goals as goal
 
 abbrev first : App

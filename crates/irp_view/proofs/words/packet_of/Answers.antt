@@ -2,10 +2,10 @@
 use Rattle.std.proofs.Common.{codes, subst, ◌∙◌}
 use Rattle.clap.specs.Matches.{found_of}
 use Rattle.clap.proofs.WalkLemmas.{raw_values-rows}
-use Rattle.irp_view.specs.CommandLine.{IsAsked, IsUseOf}
+use Rattle.irp_view.specs.CommandLine.{OrUsage, IsUseOf}
 use Rattle.irp_view.proofs.words.packet_of.Goals as goal
 
 pub returns : goal.returns
 returns c =
-    subst (λ texts. IsAsked (IsUseOf texts) c.packet_named.result)
+    subst (λ texts. OrUsage (IsUseOf texts) c.packet_named.result)
     (c.get_strs.ensures ∙ raw_values-rows (found_of c.args.matches.now) (codes "packet")) c.packet_named.ensures

@@ -1,6 +1,6 @@
 use Rattle.std.proofs.Common.{ℕ, List, ◌++◌, map, drop, false, string_bytes}
-use Rattle.irp_view.specs.CommandLine.{ArePut}
-use Rattle.irp_view.proofs.words.with_uses.Given as goal
+use Rattle.irp_view.specs.Joined.{ArePut}
+use Rattle.irp_view.proofs.joined.with_uses.Given as goal
 
 abbrev pub invariant-loop-word : goal.invariant-loop-word
 invariant-loop-word l =

@@ -2,8 +2,8 @@
 use Rattle.std.proofs.Common.{◌≡◌, ℕ, List, [], ◌∷◌, ◌++◌, map, string_bytes, Option, IfSome, Bor, true, inl, inr, refl, subst, ap, ◌∙◌}
 use Rattle.std.proofs.lemmas.List.{append_assoc}
 use Rattle.std.proofs.lemmas.Result.{IfOk-weaker}
-use Rattle.irp_view.specs.CommandLine.{IsJoined, IsPut}
-use Rattle.irp_view.proofs.words.put_word.Goals as goal
+use Rattle.irp_view.specs.Joined.{IsJoined, IsPut}
+use Rattle.irp_view.proofs.joined.put_word.Goals as goal
 
 pub returns-in_ok-put_whole-in-Some : goal.returns-in_ok-put_whole-in-Some
 returns-in_ok-put_whole-in-Some c =

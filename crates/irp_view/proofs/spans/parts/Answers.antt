@@ -1,8 +1,8 @@
 -- The text is cut at its first dot, and another dot is taken off what is behind it.
 use Rattle.std.proofs.Common.{arith, ◌≡◌, ℕ, List, ◌∷◌, ◌++◌, Option, MatchOption, Bor, drop, sym, subst, ap, ◌∙◌}
 use Rattle.std.proofs.lemmas.Str.Pattern.{strip_prefix_char}
-use Rattle.irp_view.proofs.Spans.{cut_gives, cut_is, never_whole}
-use Rattle.irp_view.proofs.words.parts.Goals as goal
+use Rattle.irp_view.proofs.Cuts.{cut_gives, cut_is, never_whole}
+use Rattle.irp_view.proofs.spans.parts.Goals as goal
 
 pub returns-in_err-from-clause-none : goal.returns-in_err-from-clause-none
 returns-in_err-from-clause-none c none from to parted =

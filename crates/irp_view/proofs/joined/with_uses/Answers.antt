@@ -1,8 +1,8 @@
 -- What was put for the words so far, and what is put for the rest.
 use Rattle.std.proofs.Common.{ℕ, List, [], ◌∷◌, ◌++◌, map, drop, ◌+◌, false, string_bytes, refl, sym, subst, ap, ◌∙◌}
 use Rattle.std.proofs.lemmas.List.{append-nil, append_assoc, drop_all, drop_more}
-use Rattle.irp_view.specs.CommandLine.{ArePut, IsPut, names_packet}
-use Rattle.irp_view.proofs.words.with_uses.Goals as goal
+use Rattle.irp_view.specs.Joined.{ArePut, IsPut, names_packet}
+use Rattle.irp_view.proofs.joined.with_uses.Goals as goal
 
 pub loop-word-preserved : goal.loop-word-preserved
 loop-word-preserved c rest are =

@@ -1,4 +1,4 @@
--- A text is cut at its first two dots in one way.
+-- A text is cut at its first dots in one way.
 use Rattle.std.proofs.Common.{arith, ◌≤◌, Bool, true, false, cond, drop, map, zero, suc, ◌≡◌, ◌<◌, ℕ, List, [], ◌∷◌, ◌++◌, Option, None, Some, IfSome, MatchOption, Bor, length, ◌≢◌, inl, inr, refl, sym, subst, ◌∙◌}
 use lib.ListN.{get_or}
 use Rattle.std.proofs.lemmas.Str.Pattern.{IsSplitOnceResult, split_after, split_parts}
@@ -7,7 +7,10 @@ use Rattle.std.specs.Option.{is_some}
 use Rattle.std.proofs.lemmas.Bool.{eqb-true}
 use Rattle.std.proofs.Math.Dec.{eqb}
 use Rattle.std.specs.Str.Parse.{AllDigits, without_leading_plus}
-use Rattle.irp_view.specs.CommandLine.{HasNoDot, IsFirst, IsJoined, IsNumber, IsParted, IsPlace, IsSpan, IsUse, IsUseOf, Writes, last_place}
+use Rattle.irp_view.specs.CommandLine.{IsUseOf}
+use Rattle.irp_view.specs.Joined.{IsJoined, IsNumber}
+use Rattle.irp_command_line.specs.CommandLine.{Writes}
+use Rattle.irp_view.specs.Spans.{HasNoDot, OrNone, IsParted, IsPlace, IsSpan, IsUse, last_place}
 use Rattle.irp_types.specs.declared.names.IrpRef.{IrpRef}
 use Rattle.irp_view.specs.declared.orders.Span.{Span}
 
@@ -83,12 +86,12 @@ place_is missing text one other (inr a) (inl b) = absurd (no_digits text b.0 a.0
 place_is missing text one other (inr a) (inr b) = a.2 ∙ sym b.2
 
 -- where a part is no place, the text names no span
-pub no_place : (missing : ℕ) (text : List ℕ) (found : Option ℕ) → IsFirst (IsPlace missing text) found → found ≡ None → (place : ℕ) → IsPlace missing text place → ⊥
-no_place missing text found first none = subst (IsFirst (IsPlace missing text)) none first
+pub no_place : (missing : ℕ) (text : List ℕ) (found : Option ℕ) → OrNone (IsPlace missing text) found → found ≡ None → (place : ℕ) → IsPlace missing text place → ⊥
+no_place missing text found first none = subst (OrNone (IsPlace missing text)) none first
 
 -- a place that was found
-pub found_place : (missing : ℕ) (text : List ℕ) (found : Option ℕ) (place : ℕ) → IsFirst (IsPlace missing text) found → found ≡ Some place → IsPlace missing text place
-found_place missing text found place first some = subst (IsFirst (IsPlace missing text)) some first
+pub found_place : (missing : ℕ) (text : List ℕ) (found : Option ℕ) (place : ℕ) → OrNone (IsPlace missing text) found → found ≡ Some place → IsPlace missing text place
+found_place missing text found place first some = subst (OrNone (IsPlace missing text)) some first
 
 -- of two texts that were taken out of a list of two: the use that the list names is the one that they name
 pub two_name : (texts : List (Bor (List ℕ))) (none : Bor (List ℕ)) (value : Option IrpRef) → 2 ≤ length texts → length texts < 3 → IsUseOf (Some (map (λ text. text.now) texts)) value
@@ -129,6 +132,6 @@ is_so true = Unit {0}
 is_so false = ⊥
 
 -- what isn't read as a number writes none
-pub not_number : (text : List ℕ) (found : Option ℕ) → IsFirst (Writes text) found → is_some found ≡ false → IsNumber text → ⊥
+pub not_number : (text : List ℕ) (found : Option ℕ) → OrNone (Writes text) found → is_some found ≡ false → IsNumber text → ⊥
 not_number text None first none (number, writes) = first number writes
 not_number text (Some read) first none number = subst is_so none tt

@@ -1,7 +1,7 @@
 -- A word is cut at its first dot; a word whose parts aren't both numbers names no use.
 use Rattle.std.proofs.Common.{inl, inr, ◌∙◌, sym}
-use Rattle.irp_view.proofs.Spans.{halves_are, never_joined, not_number}
-use Rattle.irp_view.proofs.words.halves.Goals as goal
+use Rattle.irp_view.proofs.Cuts.{halves_are, never_joined, not_number}
+use Rattle.irp_view.proofs.joined.halves.Goals as goal
 
 pub returns-in_err-slot-clause-none : goal.returns-in_err-slot-clause-none
 returns-in_err-slot-clause-none c none slot use_no joined =

@@ -1,23 +1,23 @@
 -- A span is told where both parts are places in order, and nowhere else.
 use Rattle.std.proofs.Common.{arith, ◌<◌, ◌≤◌, IfSome, sym, subst}
-use Rattle.irp_view.specs.CommandLine.{IsFirst, IsParted, IsSpan, last_place}
-use Rattle.irp_view.proofs.Spans.{found_place, no_place, parts_are, place_is, span_is_parted}
-use Rattle.irp_view.proofs.words.span_in.Goals as goal
+use Rattle.irp_view.specs.Spans.{OrNone, IsParted, IsSpan, last_place}
+use Rattle.irp_view.proofs.Cuts.{found_place, no_place, parts_are, place_is, span_is_parted}
+use Rattle.irp_view.proofs.spans.span_in.Goals as goal
 
 pub returns-in_err-from : goal.returns-in_err-from
 returns-in_err-from c =
-    subst (IsFirst (IsSpan c.args.text.now)) (sym c.from_residual.ensures)
+    subst (OrNone (IsSpan c.args.text.now)) (sym c.from_residual.ensures)
     (λ span is. c.parts.ensures.none c.in_err-from.was is.from is.to (span_is_parted c.args.text.now span is))
 
 pub returns-in_err-from-2 : goal.returns-in_err-from-2
 returns-in_err-from-2 c =
-    subst (IsFirst (IsSpan c.args.text.now)) (sym c.from_residual-in_err-from-2.ensures)
+    subst (OrNone (IsSpan c.args.text.now)) (sym c.from_residual-in_err-from-2.ensures)
     (λ span is. no_place 0 c.in_ok-from.from.now c.place.result c.place.ensures c.in_err-from-2.was span.from
     (parts_are c.args.text.now c.parts.result (c.in_ok-from.from, c.in_ok-from.to) span is c.parts.ensures.alone c.in_ok-from.was).0)
 
 pub returns-in_err-to : goal.returns-in_err-to
 returns-in_err-to c =
-    subst (IsFirst (IsSpan c.args.text.now)) (sym c.from_residual-in_err-to.ensures)
+    subst (OrNone (IsSpan c.args.text.now)) (sym c.from_residual-in_err-to.ensures)
     (λ span is. no_place last_place c.in_ok-from.to.now c.place-2.result c.place-2.ensures c.in_err-to.was span.to
     (parts_are c.args.text.now c.parts.result (c.in_ok-from.from, c.in_ok-from.to) span is c.parts.ensures.alone c.in_ok-from.was).1)
 

@@ -1,6 +1,7 @@
+-- The flag is the text that clap found for the word.
 use Rattle.clap.specs.Matches.{found_of}
-use Rattle.irp_orders.proofs.CommandLine.{flag_said}
-use Rattle.irp_orders.proofs.words.is_set.Goals as goal
+use Rattle.irp_command_line.proofs.Matching.{flag_said}
+use Rattle.irp_command_line.proofs.is_set.Goals as goal
 
 pub returns : goal.returns
 returns c =
