@@ -9,7 +9,7 @@ MOST_LINES = 3
 STATUS = r"\bstatus(?:es)?|returned|returns|return|with|gets|ended with"
 # What says how the mistake is mended: the lesson asks for that.
 REMEDIES = [r"\.? Remedy: .*?(?= \[before|$)",
-            r" \((?!0x|rules? |memory freed|somebody|used |its use|nobody)[^()]*(?:\([^()]*\)[^()]*)*\)(?=: \S+\.c:)",
+            r" \((?!0x|rules? |memory freed|somebody|used |its use|nobody)(?:[^()]|\((?:[^()]|\([^()]*\))*\))*\)(?=: \S+\.c:)",
             r"[:;,] (?:call|set|take|use|give|free|complete|mark) (?=\w+)[^\[]*(?= \[before)", r"\. if \(Irp->Cancel .*?complete it",
             r" \(rules? [^()]*\)", r" \(no stop code\)"]
 
