@@ -15,6 +15,7 @@ import missing
 
 HERE = os.path.dirname(os.path.abspath(__file__))
 KEPT = folders.OUT + "/kept"
+FILLS = ["-ftrivial-auto-var-init=pattern"]
 MOST = 2000  # objects that are kept; of more the older half goes
 
 
@@ -41,6 +42,14 @@ def call(words, why):
 @functools.lru_cache
 def version_of(compiler):
     return call([compiler, "--version"], f"{compiler} doesn't run")
+
+
+@functools.lru_cache
+def filling(compiler):
+    """Returns flags by which variables that aren't set have a value, and what each byte of it is; or neither."""
+    words = [compiler, *FILLS, "-x", "c", "-", "-fsyntax-only"]
+    made = subprocess.run(words, input="", capture_output=True, text=True, check=False)
+    return (FILLS, 0xAA if "clang" in version_of(compiler) else 0xFE) if not made.returncode else ([], None)
 
 
 def kept_at(words, source):

@@ -11,6 +11,7 @@ NUMBER = re.compile(r"\b0[xX][0-9a-fA-F]{5,8}\b")
 MARK = "wdm_ctl_code"
 MARKED = f"#include <wdm.h>\n#undef CTL_CODE\n#define CTL_CODE(device, function, method, access) {MARK}(device, function, method, access)\n"
 NAMED = r"((?!STATUS_)[A-Za-z_]\w*(?:\([^()]*\))?)"  # a macro or an enum's constant, or a macro with its arguments
+OWN_INTERNAL = re.compile(r"\[\s*IRP_MJ_INTERNAL_DEVICE_CONTROL\s*\]\s*=")
 TIMES = 4  # that a source is compiled at most: each time without what isn't constant
 
 
@@ -36,6 +37,18 @@ def read_codes(sources):
             if "IoControlCode" in it.read():
                 return True
     return False
+
+
+def internals(sources):
+    """Returns whether internal controls may be sent to drivers that have a dispatch of their own for them, as "1" or "0": not
+    where a structure of the sender's comes with each. None where no driver has one."""
+    texts = []
+    for source in sources:
+        with open(source, encoding="utf-8", errors="replace") as it:
+            texts.append(it.read())
+    if not any(OWN_INTERNAL.search(it) for it in texts):
+        return None
+    return "0" if any("Others.Argument" in it for it in texts) else "1"
 
 
 def expressions(compiler, flags, source, text):

@@ -84,7 +84,7 @@ class Options:
         self.every_order, self.schedule, self.real, self.sanitize = True, None, False, None
         self.seeds = self.threads = self.controls = self.transcript = self.patience = self.part = self.shake = None
         self.page_ends = self.routines_high = self.refuse = None
-        self.args, self.timeout, self.settings, self.minutes, self.processes = "", 100, {}, 60, 1
+        self.args, self.timeout, self.settings, self.minutes, self.processes = "", 600, {}, 60, 1
         with open(source, encoding="utf-8") as it:
             self.one_processor = ". On one processor:" in it.readline()
 

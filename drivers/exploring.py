@@ -155,7 +155,7 @@ class Exploration:
     def round(self, pieces, until, is_last):
         """Makes a round of pieces. Returns those that are left."""
         options, left = self.options, []
-        for n, it in enumerate(pieces):
+        for n, it in enumerate(pieces):  # the list may change behind n
             minutes = (until - time.monotonic()) / 60
             if minutes <= 0:
                 self.takes(3)
@@ -164,6 +164,8 @@ class Exploration:
             options.scenario, options.minutes = it.scenario, max(min(minutes, 4 * share), LEAST_MINUTES)
             if self.piece(it, is_last):
                 left.append(it)
+            elif it.is_refused and options.internals == "1":
+                pieces[n + 1:] = orders.sent_inside(it, pieces[n + 1:])
         return left
 
     def piece(self, piece, is_last):
@@ -173,6 +175,7 @@ class Exploration:
         is_out = orders.is_out(piece, report)
         piece.learn(report)
         if is_out and "schedule" not in report.facts:
+            piece.is_refused = is_out == orders.REFUSED and "+" not in piece.scenario
             self.found.covered.situate(piece.name, is_out, "apart")
             return False
         if "schedule" in report.facts:

@@ -39,6 +39,7 @@ SCENARIOS = {"overlap": "a read and a write at once", "cancel": "a read that is 
 MEANWHILE = {"cancel": "cancelled", "cleanup": "while its file is closed, and another one has a read",
              "stop": "over a stop and a start", "surprise": "while the device goes by surprise",
              "power": "while power goes and comes"}
+REFUSED = "no driver takes the control"
 QUICKLY = 1  # preemptions of the first round of pieces, by which they are sorted
 JUDGED_OF_A_PIECE = 6  # distinct transcripts
 LONG = {"long": "a long read"}  # which a driver may split
@@ -49,8 +50,8 @@ class Piece:
     """A piece of the host's own test that has no name of its own: who sends what, and what happens meanwhile."""
 
     def __init__(self, scenario, names):
-        self.scenario = scenario
-        what, _, other = scenario.partition("+")
+        self.scenario, self.names, self.is_refused = scenario, names, False
+        what, _, other = (it.lstrip("i") for it in scenario.partition("+"))
         names = {**names, **LONG}
         self.name = names.get(what, what)
         if other in MEANWHILE:
@@ -76,8 +77,8 @@ def words_of(scenario, codes):
 
 def is_out(piece, report):
     """Returns why the piece can't be played with these drivers, or None."""
-    refused = [it for it in piece.scenario.split("+") if it in report.covered.missing("taken")]
-    return report.facts.get("apart") or ("no driver takes the control" if refused else None)
+    refused = [it for it in piece.scenario.split("+") if it.lstrip("i") in report.covered.missing("taken")]
+    return report.facts.get("apart") or (REFUSED if refused else None)
 
 
 def tell_piece(piece):
@@ -89,7 +90,7 @@ def tell_piece(piece):
 
 def is_scenario(text):
     """Returns the text where it names a piece of the host's own test."""
-    sent = r"(read|write|long|0x[0-9a-f]+)"
+    sent = r"(read|write|long|i?0x[0-9a-f]+)"
     if text in SCENARIOS or re.fullmatch(rf"{sent}(\+({sent}|{'|'.join(MEANWHILE)}))?", text):
         return text
     raise ValueError(text)
@@ -102,6 +103,16 @@ def pieces_of(codes, names):
     pairs = [f"{what}+{other}" for at, what in enumerate(sent) for other in sent[at:]]
     pairs += [f"{what}+{other}" for what in sent for other in MEANWHILE] + ["long+long", "long+write", "long+cancel"]
     return [Piece(it, names) for it in [*codes, *pairs] if it not in ("read+write", "read+cancel", "read+power")]
+
+
+def sent_inside(refused, others):
+    """Returns the pieces that are left, with a control as an internal one that is refused otherwise: first that alone. Not one
+    of METHOD_NEITHER, with which a structure of the sender's may come."""
+    code, inside = refused.scenario, "i" + refused.scenario
+    if code.startswith("i") or int(code, 16) & 3 == 3:
+        return others
+    words = [[inside if it == code else it for it in other.scenario.split("+")] for other in others]
+    return [Piece(inside, refused.names), *(Piece("+".join(it), refused.names) for it in words)]
 
 
 @functools.lru_cache

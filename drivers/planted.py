@@ -395,9 +395,7 @@ FOR_OWN_TEST = ["handover", "keyboard", "children", "policy", "power", "removal"
 
 # Drivers of hostile/ that go on until their seconds are over, however few these are; all others have more than they want.
 ENDLESS = {"loops_without_end": 8, "prints_without_end": 8}
-LONGEST = 100
-# Of a thread that runs on the host tells where it is only if a processor comes to it within a moment: one of so many runs does.
-TRIES = {"spins": 10}
+LONGEST = 600
 # The drivers of hostile/: what is told of each, beside the transcript. None is clean.
 STOPPED = "STOPPED: "
 

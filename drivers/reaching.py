@@ -226,6 +226,9 @@ def asleep(bench):
     said, status = run(bench, source)
     told = f"note, a timer in D3: the timer that was set at {place_in(source, 'KeSetTimerEx(')} goes off while D" in said
     yield "a timer that goes off without power", NO_COMPLAINT if told and not status else f"status {status}: {said[-900:]}"
+    said, _ = run(bench, "--verify", "--minutes", "0.05", "--processes", "1", source)
+    told = re.search(r"^host: note, a timer in D3: .*\n  again with  run ", said, re.M)
+    yield "--verify tells that note", NO_COMPLAINT if told else said[-900:]
     said, status = run(bench, "--cflag=-DRIGHT", source)
     yield "and one that is cancelled before", NO_COMPLAINT if not status and "a timer in D3" not in said else said[-900:]
 
@@ -322,7 +325,14 @@ BUGS = [("holds", 1, "power comes back, and what is held isn't answered", "NotRe
         ("waits", 3, "STATUS_PENDING for a wait that isn't kept", "Returned", None, "in Control, dispatch for DEVICE_CONTROL"),
         ("waits", 4, "the same, which isn't completed", "Returned", None, "in Control, dispatch for DEVICE_CONTROL"),
         ("adds", 1, "two requests add to a sum at once", "LostUpdate", "LostUpdate", "one of the two changes is lost",
-         "--every-order", "--preemptions", "1", "--processes", "1", "--scenario", "overlap")]
+         "--every-order", "--preemptions", "1", "--processes", "1", "--scenario", "overlap"),
+        ("answers", 1, "a variable that isn't set goes to a program", "Unwritten", "Unwritten", "a variable that isn't set was copied to"),
+        ("answers", 2, "a block that isn't set goes to a program", "Unwritten", "Unwritten", "a block that isn't set was copied to"),
+        ("answers", 3, "an open with a name is completed twice", "CompletedTwice", None, "in Complete"),
+        ("answers", 4, "a length of the input is trusted", "PoolOverrun", "PoolOverrun", "in TakeName", "--page-ends"),
+        ("inside", 1, "an internal control is completed twice", "CompletedTwice", "CompletedTwice", "in Complete"),
+        ("inside", 2, "an internal control beside itself", "BugCheck", None, "in Inside",
+         "--every-order", "--preemptions", "1", "--processes", "1", "--judge", "1")]
 
 
 def bugs(bench, name):
@@ -336,6 +346,17 @@ def bugs(bench, name):
         yield f"{what}: {rule}", NO_COMPLAINT if told and status == 1 else f"status {status}: {said[-1200:]}"
     said, status = run(bench, *flags, source)
     yield f"{name} without a mistake", NO_COMPLAINT if not status else f"status {status}: {said[-1200:]}"
+
+
+def inside(bench):
+    """What drivers take from each other alone is sent as an internal control, and isn't told as never taken."""
+    said, status = run(bench, HERE + "/untested/inside.c")
+    well = not status and "never taken" not in said and not re.search("^not made .*internal control", said, re.M)
+    yield "an internal control that the source names", NO_COMPLAINT if well else said[-900:]
+    said, status = run(bench, "--cflag=-DMETHOD=METHOD_NEITHER", HERE + "/untested/inside.c")
+    told = re.search("^not made .*each internal control that the source names: a structure of the sender's", said, re.M)
+    well = told and not status and "never taken IOCTL_INSIDE_WORK" in said
+    yield "and one that has a structure of its sender's", NO_COMPLAINT if well else said[-900:]
 
 
 def with_its_flag(bench):
@@ -352,6 +373,7 @@ def tests(bench):
             ("own test, asleep", lambda: asleep(bench)), ("own test, an own packet", lambda: own_packet(bench)),
             ("own test, a buffer's flag", lambda: with_its_flag(bench)),
             ("own test, codes", lambda: codes(bench)),
-            *((f"own test, bugs of {it}", lambda it=it: bugs(bench, it)) for it in ("holds", "usage", "waits", "adds")),
+            ("own test, inside", lambda: inside(bench)),
+            *((f"own test, bugs of {it}", lambda it=it: bugs(bench, it)) for it in ("holds", "usage", "waits", "adds", "answers", "inside")),
             ("own test, children", lambda: children(bench)),
             *((f"own test, stack {it}", lambda it=it: silent(bench, it)) for it in planted.FOR_OWN_TEST)]

@@ -20,6 +20,7 @@ PATIENCE = 10  # seconds: runs stand side by side, and one that gets no processo
 FLAGS = ["-finstrument-functions", f"-finstrument-functions-exclude-file-list={os.path.dirname(os.path.abspath(__file__))}/include/"]
 # What is told of memory is told best where pages end with blocks: at the line itself.
 MEMORY = ("PoolOverrun", "WrittenAfterFree", "UsedAfterFree")
+MOST_NOTES = 20  # that are told
 TIMES_AGAIN = 3  # that a run is made again which no fault of the host's tells, but the judge
 
 
@@ -123,6 +124,15 @@ def complaints_of(run):
     return last[:1] or ["; ".join(run.complaints())]
 
 
+def notes_of(run):
+    """Returns the notes of a run: of those that differ in numbers alone the first one, by what they have in common."""
+    found = {}
+    for line in run.said.splitlines():
+        if line.startswith("host: note, "):
+            found.setdefault(re.sub(r"\d+", "N", line), line)
+    return found
+
+
 class Fault:
     """A fault that runs told: its line, the flags of its best run, what that took away, and when it was found."""
 
@@ -136,15 +146,15 @@ class Verification:
 
     def __init__(self, options, make_run):
         self.options, self.make_run, self.numbers = options, make_run, iter(range(1 << 30))
-        self.faults, self.covered, self.cases = {}, covering.Covered(), []
+        self.faults, self.notes, self.covered, self.cases = {}, {}, covering.Covered(), []
         self.began, self.left_out = time.monotonic(), []
         self.until = self.began + 60 * options.minutes
         self.made = self.planned = 0
 
-    def one(self, flags):
-        """Returns a run with these flags and how long it took, or None where the time is over."""
+    def one(self, flags, is_first=False):
+        """Returns a run with these flags and how long it took, or None where the time is over: not of the first ones."""
         began = time.monotonic()
-        if began > self.until:
+        if began > self.until and not is_first:
             return None
         options = copy.copy(self.options)
         options.patience = options.patience or PATIENCE
@@ -164,6 +174,8 @@ class Verification:
         found = complaints_of(run)
         kind.bad += bool(found)
         self.cases.append(reporting.Case(words_of(flags) or kind.name, seconds, found))
+        for key, line in notes_of(run).items():
+            self.notes.setdefault(key, (line, flags))
         for line in found:
             known = self.faults.get(key_of(line))
             if known is None or (rule_of(line) in MEMORY and "page_ends" in flags):
@@ -201,6 +213,14 @@ class Verification:
                 taken = f"\n  {fault.taken}" if fault.taken else ""
                 print(f"{fault.line}{taken}\n  again with  {self.again(fault.flags)}{self.comes_again(fault)}\n"
                       f"  found       after {fault.seconds:.1f} s", flush=True)
+
+    def tell_notes(self):
+        """Tells each note once, with the first run that had it."""
+        notes = list(self.notes.values())
+        for line, flags in notes[:MOST_NOTES]:
+            print(f"{line}\n  again with  {self.again(flags)}")
+        if len(notes) > MOST_NOTES:
+            print(f"and {usage.counted(len(notes) - MOST_NOTES, 'other note')}")
 
     def progress(self, kind):
         if sys.stderr.isatty():
@@ -241,6 +261,7 @@ def sum_up(found, kinds, never):
     rules = {}
     for fault in found.faults.values():
         rules[rule_of(fault.line)] = rules.get(rule_of(fault.line), 0) + 1
+    found.tell_notes()
     print(f"runs        {made}")
     if rules:
         print("faults      " + ", ".join(f"{n} {rule}" for rule, n in sorted(rules.items())))
@@ -258,7 +279,7 @@ def counted(found, pool, has_short_test):
     the runs of the short test and of the whole one."""
     count = {"cancel": "count"}
     flags = [dict(count, whole=1), count] if has_short_test else [count]
-    plain, made = Kind("plain", None, [{}]), list(pool.map(found.one, flags))
+    plain, made = Kind("plain", None, [{}]), list(pool.map(lambda it: found.one(it, is_first=True), flags))
     found.take(plain, {}, made[0])
     found.tell_found(MEMORY)
     return made[-1][0], made[0][0], plain

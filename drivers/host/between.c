@@ -8,20 +8,38 @@
 
 enum { MOMENT = 5, MOST_MOMENTS = 200 }; /* milliseconds; and how many of them */
 typedef struct { PDEVICE_OBJECT Self, Lower; } BETWEEN, *PBETWEEN;
-typedef struct { PIO_WORKITEM Item; PIRP Irp; BOOLEAN IsOwn; } LATE, *PLATE;
+typedef struct { int seat; uint64_t called, caller; } Sender; /* its thread, and the frames of Pend and of who called that */
+typedef struct { PIO_WORKITEM Item; PIRP Irp; BOOLEAN IsOwn; Sender Sender; } LATE, *PLATE;
 
 static _Atomic bool keeps_own;
 
 /* What drivers have allocated is kept from now on until it is cancelled, but not for long; or it isn't any more. */
 void keep_own_packets(BOOLEAN keeps) { keeps_own = keeps; }
 
-/* By then the driver above has most likely gone on behind IoCallDriver: to where it waits, or to its return. */
+static Sender this_sender(void)
+{
+    const Frame *f = self.frames;
+    return (Sender){ self.seat, f ? f->number : 0, f && f->up ? f->up->number : 0 };
+}
+
+static bool is_behind(const Sender *s)
+{
+    pthread_mutex_lock(&host_lock);
+    const bool is = has_gone_on(s->seat, s->called, s->caller);
+    pthread_mutex_unlock(&host_lock);
+    return is;
+}
+
+/* Once the driver above has gone on behind IoCallDriver: to where it waits, or to its return. One that does neither isn't
+   waited for. */
 static VOID CompleteLate(PDEVICE_OBJECT DeviceObject, PVOID Context)
 {
     PLATE late = Context;
     LARGE_INTEGER moment = { .QuadPart = -10 * 1000 * MOMENT };
     UNREFERENCED_PARAMETER(DeviceObject);
     KeDelayExecutionThread(KernelMode, FALSE, &moment);
+    for (int i = 0; !is_behind(&late->Sender) && i < MOST_MOMENTS; i++)
+        KeDelayExecutionThread(KernelMode, FALSE, &moment);
     for (int i = 0; late->IsOwn && keeps_own && !late->Irp->Cancel && i < MOST_MOMENTS; i++)
         KeDelayExecutionThread(KernelMode, FALSE, &moment);
     IoFreeWorkItem(late->Item);
@@ -51,6 +69,7 @@ static NTSTATUS Pend(PDEVICE_OBJECT DeviceObject, PIRP Irp)
         return IoCallDriver(ext->Lower, Irp);
     }
     late->IsOwn = is_drivers_own(Irp);
+    late->Sender = this_sender();
     IoMarkIrpPending(Irp);
     IoCopyCurrentIrpStackLocationToNext(Irp);
     IoSetCompletionRoutine(Irp, LowerIsDone, late, TRUE, TRUE, TRUE);

@@ -17,6 +17,7 @@ void leave_level(Frame *f);
 const char *level_name(KIRQL irql);
 
 /* unwritten.c */
+enum { FRESH_BYTE = 0xCD }; /* what a new block of pool is full of */
 void fill_behind_input(Packet *p, size_t input);
 void check_written(const Packet *p, int by, size_t input, uint64_t information);
 

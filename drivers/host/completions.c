@@ -121,9 +121,10 @@ void check_completion(const Packet *p, int by, ULONG status, uint64_t informatio
     if (by < 0 || p->skipped || p->current > p->size || p->at[p->current].device != by || is_between(devices[by].raw))
         return;
     const IO_STACK_LOCATION *l = raw_at((Packet *)p, p->current);
+    const bool is_control = l->MajorFunction == IRP_MJ_DEVICE_CONTROL || l->MajorFunction == IRP_MJ_INTERNAL_DEVICE_CONTROL;
     check_information(p, l, by, status, information);
-    if (l->MajorFunction == IRP_MJ_DEVICE_CONTROL)
-        control_ended(devices[by].driver->HostNumber, status);
+    if (is_control && !is_bottom(devices[by].raw))
+        control_ended(devices[by].driver->HostNumber, l->MajorFunction, l->Parameters.DeviceIoControl.IoControlCode, status);
     if (l->MajorFunction == IRP_MJ_PNP)
         check_pnp(p, l, by, status);
     else if (l->MajorFunction == IRP_MJ_POWER)

@@ -79,10 +79,12 @@ void request_came(int driver, UCHAR major, UCHAR minor)
 }
 
 /* A driver ends a control: unless it says that it doesn't know the code, it does. */
-void control_ended(int driver, ULONG status)
+void control_ended(int driver, UCHAR major, ULONG code, ULONG status)
 {
-    if (covered && driver >= 0 && status != (ULONG)STATUS_INVALID_DEVICE_REQUEST && status != (ULONG)STATUS_NOT_SUPPORTED)
-        covered->knew[driver] = true;
+    if (!covered || driver < 0 || status == (ULONG)STATUS_INVALID_DEVICE_REQUEST || status == (ULONG)STATUS_NOT_SUPPORTED)
+        return;
+    covered->knew[driver] |= major == IRP_MJ_DEVICE_CONTROL;
+    control_sent(code, true);
 }
 
 /* At the end of a run: the dispatches that drivers have then. */
@@ -146,6 +148,14 @@ void control_sent(unsigned code, int is_taken)
     covered->codes[i].code = code;
     covered->codes[i].is_taken |= is_taken != 0;
     covered->n_codes += i == covered->n_codes;
+}
+
+int control_is_taken(unsigned code)
+{
+    for (int i = 0; covered && i < covered->n_codes; i++)
+        if (covered->codes[i].code == code)
+            return covered->codes[i].is_taken;
+    return false;
 }
 
 static void write_situations(FILE *out)

@@ -14,7 +14,7 @@
 extern const struct { const char *name; PDRIVER_INITIALIZE entry; } wdm_drivers[];
 extern const int wdm_n_drivers;
 
-enum { UNKNOWN_MINOR = 0x7f, MAX_CHILDREN = 16 };
+enum { UNKNOWN_MINOR = 0x7f, MAX_CHILDREN = 16, LARGE = 65537 };
 static const char held_none[] = "each request was completed at once";
 static PDEVICE_OBJECT top_of_threads;
 static PDRIVER_OBJECT loaded[64];
@@ -88,10 +88,32 @@ static void use_cancels(PDEVICE_OBJECT top)
     not_made(SITUATION_HELD_CANCELLED, held_none);
 }
 
+/* A program may send any number: a length, a count or an index that is beyond all buffers. */
+static void use_numbers(PDEVICE_OBJECT top)
+{
+    static const ULONG lengths[] = { 4, 8, 12, 16, 24, 40, 4096 };
+    for (int i = 0; i < n_controls; i++)
+        for (size_t n = 0; controls[i].major == IRP_MJ_DEVICE_CONTROL && n < ARRAYSIZE(lengths); n++) {
+            What what = control(i, lengths[n]);
+            what.number = LARGE;
+            make_request(top, what, PLAIN, SHORTLY);
+            made(SITUATION_NUMBERS);
+        }
+}
+
 static void send_one(PDEVICE_OBJECT top, What what, Situation s)
 {
     make_request(top, what, PLAIN, PATIENT);
     made_with(top, what.major, s, NULL);
+}
+
+/* What a driver does with a name behind the device's is its own: it may refuse it. */
+static void open_behind(PDEVICE_OBJECT top)
+{
+    PFILE_OBJECT file = WdmOpenBehind(top, L"\\behind", WDM_HERE);
+    made_with(top, IRP_MJ_CREATE, SITUATION_NAMED, NULL);
+    if (file)
+        WdmCloseFile(file);
 }
 
 /* Opens the device and uses it. */
@@ -110,9 +132,10 @@ static Opened use(PDEVICE_OBJECT top, BOOLEAN finds)
         use_lengths(top);
     use_cancels(top);
     use_two_files(top, o);
+    open_behind(top);
     if (finds && !is_short)
         use_crowd(top);
-    send_one(top, (What){ IRP_MJ_INTERNAL_DEVICE_CONTROL, 16, 0x7ff << 2 }, SITUATION_INTERNAL);
+    send_one(top, (What){ IRP_MJ_INTERNAL_DEVICE_CONTROL, 16, 0x7ff << 2, 0 }, SITUATION_INTERNAL);
     for (int i = 0; i < 2; i++) /* a bottom that fails does so at once, and later */
         send_one(top, transfer(IRP_MJ_FLUSH_BUFFERS, 0), SITUATION_FLUSHED);
     send_one(top, transfer(IRP_MJ_SHUTDOWN, 0), SITUATION_SHUT_DOWN);
@@ -126,9 +149,10 @@ static void *use_often(void *number)
     unsigned chance = (unsigned)(intptr_t)number + 1;
     for (int i = 0; i < rounds; i++) {
         const UCHAR major = majors[rand_r(&chance) % 4];
-        const ULONG code = n_controls ? controls[rand_r(&chance) % (unsigned)n_controls] : 0;
+        const int which = n_controls ? (int)(rand_r(&chance) % (unsigned)n_controls) : 0;
+        const What what = n_controls && is_control(major) ? control(which, 8 + (ULONG)i) : transfer(major, 8 + (ULONG)i);
         const How how = hows[rand_r(&chance) % ARRAYSIZE(hows)];
-        make_request(top_of_threads, (What){ major, 8 + (ULONG)i, code }, how, 1 + rand_r(&chance) % 5);
+        make_request(top_of_threads, what, how, 1 + rand_r(&chance) % 5);
     }
     return NULL;
 }
@@ -170,6 +194,8 @@ static void use_started(ULONG style, int threads)
     use_children();
     if (threads > 1)
         use_by_threads(top, threads);
+    if (style & WDM_BOTTOM_PENDS_ALL)
+        use_numbers(top);
     sleep_and_wake(top);
     if (!style && !is_short) {
         use_in_d3(top);
@@ -208,6 +234,8 @@ static void use_device(PDEVICE_OBJECT device, int threads)
     Opened o = use(device, TRUE);
     if (threads > 1)
         use_by_threads(device, threads);
+    if (!is_short)
+        use_numbers(device);
     close_it(o);
 }
 

@@ -225,6 +225,26 @@ void check_cleanup(const Packet *p, int by, ULONG status)
 
 VOID WdmUseFile(PFILE_OBJECT File) { self.file = File; }
 
+/* What a program asks for that opens a device to read and write it. */
+static IO_SECURITY_CONTEXT usual_context = { .DesiredAccess = FILE_GENERIC_READ | FILE_GENERIC_WRITE,
+                                             .FullCreateOptions = FILE_SYNCHRONOUS_IO_NONALERT | FILE_NON_DIRECTORY_FILE };
+
+void ask_to_open(PIO_STACK_LOCATION next)
+{
+    next->Parameters.Create.SecurityContext = &usual_context;
+    next->Parameters.Create.Options = FILE_OPEN << 24 | usual_context.FullCreateOptions;
+    next->Parameters.Create.FileAttributes = FILE_ATTRIBUTE_NORMAL;
+    next->Parameters.Create.ShareAccess = FILE_SHARE_READ | FILE_SHARE_WRITE;
+}
+
+/* Whether a location asks for that, as nearly all do: it has no word of its own then. */
+bool is_usual_open(const IO_STACK_LOCATION *l)
+{
+    IO_STACK_LOCATION usual = { 0 };
+    ask_to_open(&usual);
+    return l->MajorFunction == IRP_MJ_CREATE && !l->Flags && !memcmp(&l->Parameters, &usual.Parameters, sizeof usual.Parameters);
+}
+
 /* An exclusive device is opened once. */
 static bool may_be_opened(PDEVICE_OBJECT top)
 {
@@ -235,7 +255,7 @@ static bool may_be_opened(PDEVICE_OBJECT top)
     return may;
 }
 
-NTSTATUS open_device(PDEVICE_OBJECT top, PFILE_OBJECT *file, WDM_SITE at)
+static NTSTATUS open_named(PDEVICE_OBJECT top, PCWSTR name, PFILE_OBJECT *file, WDM_SITE at)
 {
     IO_STATUS_BLOCK iosb = { 0 };
     KEVENT ended;
@@ -247,11 +267,22 @@ NTSTATUS open_device(PDEVICE_OBJECT top, PFILE_OBJECT *file, WDM_SITE at)
     if (!irp)
         return STATUS_INSUFFICIENT_RESOURCES;
     *file = irp->Tail.Overlay.OriginalFileObject;
+    if (*file)
+        RtlInitUnicodeString(&(*file)->FileName, name);
     WdmIoCallDriver(top, irp, at);
     WdmKeWaitForSingleObject(&ended, NULL, at);
     if (!NT_SUCCESS(iosb.Status))
         *file = NULL;
     return iosb.Status;
+}
+
+NTSTATUS open_device(PDEVICE_OBJECT top, PFILE_OBJECT *file, WDM_SITE at) { return open_named(top, NULL, file, at); }
+
+PFILE_OBJECT WdmOpenBehind(PDEVICE_OBJECT Top, PCWSTR Name, WDM_SITE at)
+{
+    PFILE_OBJECT file;
+    open_named(Top, Name, &file, at);
+    return file;
 }
 
 PFILE_OBJECT WdmOpen(PDEVICE_OBJECT Top, WDM_SITE at)

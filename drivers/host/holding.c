@@ -16,7 +16,8 @@ Opened open_it(PDEVICE_OBJECT top)
 {
     PFILE_OBJECT file = WdmOpenFile(top);
     made_if(SITUATION_OPENED, file != NULL, no_file);
-    return (Opened){ top, file, file && (file->FsContext || file->FsContext2), FALSE };
+    files_have_context = file && (file->FsContext || file->FsContext2);
+    return (Opened){ top, file, files_have_context, FALSE };
 }
 
 /* The last handle is closed; requests of the file may be there still. Where IRP_MJ_CREATE fails, as where no driver has a
@@ -103,17 +104,18 @@ static BOOLEAN is_any_held(Asked *a)
 static BOOLEAN is_control_held(Asked *a)
 {
     for (int i = 0; i < a->n; i++)
-        if (a->what[i].major == IRP_MJ_DEVICE_CONTROL && is_held(&a->request[i]))
+        if (is_control(a->what[i].major) && is_held(&a->request[i]))
             return TRUE;
     return FALSE;
 }
 
-/* A read and each control, of which some may end others: which of them are held. */
+/* A read and each control of a program, of which some may end others: which of them are held. */
 static void find_holding(Asked *a, PDEVICE_OBJECT top)
 {
     read_until_held(a, top);
     for (int i = 0; i < n_controls; i++)
-        ask(a, top, control(i, 16));
+        if (controls[i].major == IRP_MJ_DEVICE_CONTROL)
+            ask(a, top, control(i, 16));
     for (int i = 0; i < a->n; i++)
         end_request(&a->request[i], 0);
 }

@@ -14,7 +14,9 @@
 #include <unistd.h>
 
 enum { STACK = 1 << 18, MOST_PLACES = 8, SECONDS_FOR_IT = 10, ASK = SIGURG, ENDS_STOPPED = SIGUSR2 };
+enum { MOST_MOMENTS = 5000 }; /* of a millisecond: a thread that gets no processor for so long isn't waited for */
 static Self *selves[MAX_SEATS];
+static volatile sig_atomic_t is_asked[MAX_SEATS]; /* where it is, and it hasn't answered */
 static struct { const void *at[MOST_PLACES]; _Atomic int n; } places[MAX_SEATS];
 static bool is_finished;
 
@@ -164,14 +166,22 @@ void stop_here(const char *why, const void *const *at, int n, const Frame *in, c
     stop_run(why);
 }
 
+static bool is_any_asked(void)
+{
+    for (int s = 0; s < MAX_SEATS; s++)
+        if (is_asked[s] && selves[s])
+            return true;
+    return false;
+}
+
 /* Each other thread writes down where it is: of real threads, since others are where they wait. */
 void ask_places(void)
 {
-    const struct timespec moment = { 0, 100000000 };
+    const struct timespec moment = { 0, 1000000 };
     for (int s = 0; s < MAX_SEATS; s++)
-        if (selves[s] && selves[s] != &self)
-            pthread_kill(selves[s]->id, ASK);
-    nanosleep(&moment, NULL);
+        is_asked[s] = selves[s] && selves[s] != &self && !pthread_kill(selves[s]->id, ASK);
+    for (int i = 0; i < MOST_MOMENTS && is_any_asked(); i++)
+        nanosleep(&moment, NULL);
 }
 
 static bool is_code_of_driver(const void *at)
@@ -203,7 +213,7 @@ static bool works_on(int seat)
 {
     const struct timespec moment = { 0, 20000000 };
     const long began = worked_for(seat);
-    for (int i = 0; i < 50 && worked_for(seat) < began + 20; i++)
+    for (int i = 0; i < 250 && worked_for(seat) < began + 20; i++)
         nanosleep(&moment, NULL);
     return worked_for(seat) >= began + 20;
 }
@@ -235,8 +245,10 @@ const void *loop_of_others(char *text, size_t size)
 static void place_asked(int number, siginfo_t *info, void *context)
 {
     (void)number, (void)info, (void)context;
-    if (self.seat >= 0 && selves[self.seat] == &self)
-        places[self.seat].n = where_is(true, places[self.seat].at, MOST_PLACES);
+    if (self.seat < 0 || selves[self.seat] != &self)
+        return;
+    places[self.seat].n = where_is(true, places[self.seat].at, MOST_PLACES);
+    is_asked[self.seat] = false;
 }
 
 static void stopped(int number, siginfo_t *info, void *context)
@@ -281,6 +293,21 @@ static void ended_early(void)
 }
 
 void run_is_finished(void) { is_finished = true; }
+
+static bool is_in_frame(const Self *t, uint64_t number)
+{
+    const Frame *f = t->frames;
+    while (f && f->number != number)
+        f = f->up;
+    return f != NULL;
+}
+
+/* Under G: whether the thread of a seat has left the frame `called`, and since then waits, or has left `caller` too. */
+bool has_gone_on(int seat, uint64_t called, uint64_t caller)
+{
+    const Self *t = selves[seat];
+    return !t || (!is_in_frame(t, called) && (t->wait || !is_in_frame(t, caller)));
+}
 
 /* Once, before the first driver is loaded. */
 void watch_for_the_end(void)

@@ -31,11 +31,11 @@ bool is_hosts_file(const char *file)
     return !file || !strncmp(file, __FILE__, n);
 }
 
-/* Under G: whether this allocation of a driver fails. Packets and MDLs that a test asks for by itself don't count. */
+/* Under G: whether this allocation of a driver fails. Packets, MDLs and handles that a test asks for by itself don't count. */
 bool memory_is_refused(const char *what, WDM_SITE at)
 {
     const bool may_be_a_test = !self.frames && !self.is_driver && self.driver == NOBODY && has_test(at.file);
-    if (is_hosts_file(at.file) || (may_be_a_test && !strncmp(what, "IoAllocate", 10)))
+    if (is_hosts_file(at.file) || (may_be_a_test && (!strncmp(what, "IoAllocate", 10) || !strncmp(what, "Zw", 2))))
         return false;
     remember_allocation(++n_allocations, what, at);
     if (!is_chosen(n_allocations))

@@ -2,11 +2,11 @@
  * overlaps.c: the test that `run --every-order` takes where none is given: small pieces in which a driver's routines meet.
  *
  * WDM_SCENARIO names the piece. Each puts the drivers, in their order, on a bottom device that completes reads and writes
- * later, and starts them. A driver that creates a device in DriverEntry gets the requests there, where these need no stack.
+ * later, and starts them. A driver that creates a device in DriverEntry gets them there, where these need no stack.
  *
  * Besides those that have a name, a piece is `A`, or `A+B`: A is read, write, long (a read that a driver may split) or the
- * code of a control, which a thread sends;
- * B is one of these too, or what happens to the device or the file meanwhile: cancel, cleanup, power, stop or surprise.
+ * code of a control, which a thread sends, behind an i where it is an internal one, of another driver; B is one of these
+ * too, or what happens to the device or the file meanwhile: cancel, cleanup, power, stop or surprise.
  *
  * The I/O manager frees the requests at their end, as nearly all on Windows, so that a dispatch that touches its packet after
  * another thread could end it is told. Only that of a driver elsewhere is freed by its sender.
@@ -145,11 +145,10 @@ static void overlap(void)
     pthread_join(t, NULL);
 }
 
-/* A read is cancelled by another thread while it is sent, held or completed. */
-static void cancel(void)
+/* The request is cancelled by another thread while it is sent, held or completed. */
+static void send_and_cancel(void)
 {
     pthread_t t;
-    build(&pended, IRP_MJ_READ);
     pthread_create(&t, NULL, cancel_pended, NULL);
     IoCallDriver(top, pended.irp);
     pthread_join(t, NULL);
@@ -214,25 +213,34 @@ static void remove_with_reads(UCHAR before, PFILE_OBJECT file)
 }
 
 /* What a thread of a pair sends, and on which file: NULL for the one that was opened last. */
-typedef struct { const char *what; PFILE_OBJECT file; } Act;
+typedef struct { UCHAR major; ULONG length, code; PFILE_OBJECT file; } Act;
+
+static Act act_of(const char *what, PFILE_OBJECT file)
+{
+    const BOOLEAN is_internal = *what == 'i';
+    const ULONG code = (ULONG)strtoul(what + is_internal, NULL, 0);
+    if (code)
+        return (Act){ is_internal ? IRP_MJ_INTERNAL_DEVICE_CONTROL : IRP_MJ_DEVICE_CONTROL, is_internal ? 4096 : 16, code, file };
+    return (Act){ strcmp(what, "write") ? IRP_MJ_READ : IRP_MJ_WRITE, strcmp(what, "long") ? 16 : 64, 0, file };
+}
 
 static void build_act(Request *r, const Act *a)
 {
-    const BOOLEAN is_long = !strcmp(a->what, "long"), is_read = is_long || !strcmp(a->what, "read");
-    const BOOLEAN is_write = !strcmp(a->what, "write");
     WdmUseFile(a->file);
-    build_of(r, is_read ? IRP_MJ_READ : is_write ? IRP_MJ_WRITE : IRP_MJ_DEVICE_CONTROL, is_long ? 64 : 16);
-    if (!is_read && !is_write)
-        IoGetNextIrpStackLocation(r->irp)->Parameters.DeviceIoControl.IoControlCode = (ULONG)strtoul(a->what, NULL, 0);
+    build_of(r, a->major, a->length);
+    if (a->code)
+        IoGetNextIrpStackLocation(r->irp)->Parameters.DeviceIoControl.IoControlCode = a->code;
+    if (a->major == IRP_MJ_INTERNAL_DEVICE_CONTROL && !has_context)
+        take_file(r);
     WdmUseFile(NULL);
 }
 
-/* Whether a driver takes it, where it is a control. */
+/* Whether a driver takes it, where it is a control: an internal one that is passed down isn't taken. */
 static void tell_taken(const Act *a, NTSTATUS status)
 {
-    const ULONG code = (ULONG)strtoul(a->what, NULL, 0);
-    if (code)
-        control_sent(code, status != STATUS_INVALID_DEVICE_REQUEST && status != STATUS_NOT_SUPPORTED);
+    if (a->code)
+        control_sent(a->code, a->major == IRP_MJ_DEVICE_CONTROL && status != STATUS_INVALID_DEVICE_REQUEST &&
+                     status != STATUS_NOT_SUPPORTED);
 }
 
 static void *act(void *context)
@@ -265,7 +273,7 @@ static void clean_up(PFILE_OBJECT file)
 /* What happens while another thread sends. */
 static void meanwhile(const char *what, PFILE_OBJECT second)
 {
-    Act own = { what, NULL };
+    Act own = act_of(what, NULL);
     if (!strcmp(what, "cleanup"))
         clean_up(second);
     else if (!strcmp(what, "stop"))
@@ -279,21 +287,10 @@ static void meanwhile(const char *what, PFILE_OBJECT second)
         act(&own);
 }
 
-/* The request is cancelled by another thread while it is sent, held or completed. */
-static void act_and_cancel(const Act *a)
-{
-    pthread_t t;
-    build_act(&pended, a);
-    pthread_create(&t, NULL, cancel_pended, NULL);
-    IoCallDriver(top, pended.irp);
-    pthread_join(t, NULL);
-    finish(&pended);
-}
-
 /* Another program, which has opened the device first, reads too. */
 static void read_beside(Request *r)
 {
-    const Act a = { "read", opened };
+    const Act a = act_of("read", opened);
     build_act(r, &a);
     IoCallDriver(top, r->irp);
 }
@@ -310,13 +307,14 @@ static void play_pair(const char *scenario)
         *second++ = 0;
     const BOOLEAN cleans = second && !strcmp(second, "cleanup");
     PFILE_OBJECT file = cleans ? WdmOpenFile(top) : NULL;
-    first = (Act){ text, file };
+    first = act_of(text, file);
     if (cleans && !file) {
         piece_not_there("the second IRP_MJ_CREATE fails");
         return;
     }
     if (second && !strcmp(second, "cancel")) {
-        act_and_cancel(&first);
+        build_act(&pended, &first);
+        send_and_cancel();
         return;
     }
     if (cleans)
@@ -335,9 +333,10 @@ static void play(const char *scenario)
 {
     if (!strcmp(scenario, "overlap"))
         overlap();
-    else if (!strcmp(scenario, "cancel"))
-        cancel();
-    else if (!strcmp(scenario, "power"))
+    else if (!strcmp(scenario, "cancel")) {
+        build(&pended, IRP_MJ_READ);
+        send_and_cancel();
+    } else if (!strcmp(scenario, "power"))
         power();
     else if (strcmp(scenario, "remove") && strcmp(scenario, "surprise"))
         play_pair(scenario);
@@ -346,12 +345,8 @@ static void play(const char *scenario)
 /* Whether it needs a stack: to remove, to stop, to take power from. */
 static BOOLEAN needs_stack(const char *scenario)
 {
-    static const char *const needing[] = { "remove", "surprise", "power", "stop" };
     const char *plus = strchr(scenario, '+'), *what = plus ? plus + 1 : scenario;
-    for (size_t i = 0; i < ARRAYSIZE(needing); i++)
-        if (!strcmp(what, needing[i]))
-            return TRUE;
-    return FALSE;
+    return !strcmp(what, "remove") || !strcmp(what, "surprise") || !strcmp(what, "power") || !strcmp(what, "stop");
 }
 
 static void play_on_stack(PDRIVER_OBJECT *loaded, const char *scenario)

@@ -7,7 +7,7 @@
  */
 #include "host.h"
 
-enum { FENCE = 16, FRESH = 0xCD, FENCED = 0xFD, FREED = 0xDD, MAX_KEPT = 4096, MAX_KEPT_BYTES = 1 << 25, BUCKETS = 4096, MANY = 100 };
+enum { FENCE = 16, FRESH = FRESH_BYTE, FENCED = 0xFD, FREED = 0xDD, MAX_KEPT = 4096, MAX_KEPT_BYTES = 1 << 25, BUCKETS = 4096, MANY = 100 };
 #if defined(__SANITIZE_ADDRESS__) || defined(__SANITIZE_THREAD__)
 enum { IS_PLAIN = 1 };
 #else

@@ -205,6 +205,8 @@ uint64_t number_of(const void *raw)
 uint64_t word_of(const IO_STACK_LOCATION *l)
 {
     uint64_t parts[sizeof l->Parameters / 8], h = 0xcbf29ce484222325u, rest = 0;
+    if (is_usual_open(l))
+        return l->MinorFunction;
     memcpy(parts, &l->Parameters, sizeof parts);
     for (size_t i = 0; i < sizeof parts / 8; i++)
         rest |= i ? parts[i] : parts[i] >> 32;

@@ -6,12 +6,20 @@
 enum { MOST_FOR_TIMERS = 300 }; /* milliseconds */
 enum { ANSWER_IS_LONGER = 4095 }; /* a control of this length has less input */
 enum { MOST_CONTROLS = 256, NOT_KNOWN = CTL_CODE(FILE_DEVICE_UNKNOWN, 0x7ff, METHOD_BUFFERED, FILE_ANY_ACCESS) };
-ULONG controls[MOST_CONTROLS];
+enum { ROOM_INSIDE = 4096 }; /* bytes of an internal control */
+Control controls[MOST_CONTROLS];
 int n_controls;
+BOOLEAN files_have_context;
 PDEVICE_OBJECT bottom;
 
-What control(int i, ULONG length) { return (What){ IRP_MJ_DEVICE_CONTROL, length, controls[i] }; }
-What transfer(UCHAR major, ULONG length) { return (What){ major, length, 0 }; }
+What control(int i, ULONG length)
+{
+    const Control *c = &controls[i];
+    return (What){ c->major, c->major == IRP_MJ_INTERNAL_DEVICE_CONTROL ? ROOM_INSIDE : length, c->code, 0 };
+}
+
+BOOLEAN is_control(UCHAR major) { return major == IRP_MJ_DEVICE_CONTROL || major == IRP_MJ_INTERNAL_DEVICE_CONTROL; }
+What transfer(UCHAR major, ULONG length) { return (What){ major, length, 0, 0 }; }
 BOOLEAN is_held(Request *r) { return KeReadStateEvent(&r->done) == 0; }
 BOOLEAN is_held_by_driver(Request *r) { return is_held(r) && !(bottom && bottom_holds(bottom)); }
 
@@ -42,11 +50,13 @@ BOOLEAN start_request(Request *r, PDEVICE_OBJECT top, What what, How how)
     r->irp = WdmBuildIrp(top, what.major, 0, what.length, kept ? NULL : &r->result, kept ? NULL : &r->done);
     if (!r->irp)
         return FALSE;
-    if (what.major == IRP_MJ_DEVICE_CONTROL || what.major == IRP_MJ_INTERNAL_DEVICE_CONTROL)
+    if (is_control(what.major))
         IoGetNextIrpStackLocation(r->irp)->Parameters.DeviceIoControl.IoControlCode = what.code;
+    for (ULONG i = 0; what.number && i < what.length / sizeof(ULONG); i++)
+        ((PULONG)r->irp->UserBuffer)[i] = what.number;
     if (what.major == IRP_MJ_DEVICE_CONTROL && what.length == ANSWER_IS_LONGER)
         IoGetNextIrpStackLocation(r->irp)->Parameters.DeviceIoControl.InputBufferLength = 16;
-    if (how & WITHOUT_FILE) { /* another driver's */
+    if ((how & WITHOUT_FILE) || (what.major == IRP_MJ_INTERNAL_DEVICE_CONTROL && !files_have_context)) { /* another driver's */
         IoGetNextIrpStackLocation(r->irp)->FileObject = r->irp->Tail.Overlay.OriginalFileObject = NULL;
         r->irp->RequestorMode = KernelMode;
     }
@@ -78,7 +88,7 @@ static void tell_cancel(Request *r)
 {
     if (r->major == IRP_MJ_READ || r->major == IRP_MJ_WRITE)
         made(r->major == IRP_MJ_READ ? SITUATION_READ_CANCELLED : SITUATION_WRITE_CANCELLED);
-    else if (r->major == IRP_MJ_DEVICE_CONTROL)
+    else if (is_control(r->major))
         made(SITUATION_CONTROL_CANCELLED);
     if (is_held_by_driver(r))
         made(SITUATION_HELD_CANCELLED);
@@ -133,13 +143,13 @@ NTSTATUS set_system_power(PDEVICE_OBJECT top, UCHAR minor, SYSTEM_POWER_STATE st
     return send_power(top, minor, SystemPowerState, (POWER_STATE){ .SystemState = state });
 }
 
-static void add_control(ULONG code)
+static void add_control(ULONG code, UCHAR major)
 {
     for (int i = 0; i < n_controls; i++)
-        if (controls[i] == code)
+        if (controls[i].code == code && controls[i].major == major)
             return;
     if (n_controls < MOST_CONTROLS)
-        controls[n_controls++] = code;
+        controls[n_controls++] = (Control){ code, major };
 }
 
 static const char *next_code(const char *text, ULONG *code)
@@ -154,13 +164,13 @@ void read_controls(void)
     ULONG code;
     for (const char *at = getenv("WDM_CONTROLS"); at && *at;) {
         at = next_code(at, &code);
-        add_control(code);
+        add_control(code, IRP_MJ_DEVICE_CONTROL);
     }
 }
 
 static NTSTATUS answer_to(PDEVICE_OBJECT top, ULONG code)
 {
-    return make_request(top, (What){ IRP_MJ_DEVICE_CONTROL, 0, code }, PLAIN, 20);
+    return make_request(top, (What){ IRP_MJ_DEVICE_CONTROL, 0, code, 0 }, PLAIN, 20);
 }
 
 static BOOLEAN is_refused(NTSTATUS status)
@@ -182,24 +192,65 @@ static void tell_controls(PDEVICE_OBJECT top)
                      "no driver took a control code: give --controls");
     if (n_controls)
         made(SITUATION_CONTROLS);
+    if (!n_controls || controls[0].major != IRP_MJ_DEVICE_CONTROL)
+        not_there(SITUATION_NUMBERS, "no driver takes a control from programs");
 }
 
-void find_controls(PDEVICE_OBJECT top)
+/* A code that drivers refuse to programs may be one that they take from each other: an internal control. One with which a
+   structure of the sender's comes can't be sent. Returns whether it could. */
+static BOOLEAN try_inside(PDEVICE_OBJECT top, ULONG code)
 {
-    const NTSTATUS usual = answer_to(top, NOT_KNOWN);
+    if (!getenv("WDM_INTERNAL"))
+        return TRUE;
+    if (atoi(getenv("WDM_INTERNAL")) && METHOD_FROM_CTL_CODE(code) != METHOD_NEITHER) {
+        make_request(top, (What){ IRP_MJ_INTERNAL_DEVICE_CONTROL, ROOM_INSIDE, code, 0 }, PLAIN, 20);
+        if (control_is_taken(code))
+            add_control(code, IRP_MJ_INTERNAL_DEVICE_CONTROL);
+        return TRUE;
+    }
+    return control_is_taken(code);
+}
+
+static void tell_inside(BOOLEAN are_sent)
+{
+    BOOLEAN is_any = FALSE;
+    for (int i = 0; i < n_controls; i++)
+        is_any |= controls[i].major == IRP_MJ_INTERNAL_DEVICE_CONTROL;
+    if (is_any)
+        made(SITUATION_INTERNALS);
+    else if (!are_sent)
+        not_made(SITUATION_INTERNALS, "a structure of the sender's comes with it: send it in a test of your own");
+    else
+        not_there(SITUATION_INTERNALS, getenv("WDM_INTERNAL") ? "no driver takes a code of its source that way" :
+                  "no driver has a dispatch of its own for them");
+}
+
+static BOOLEAN find_candidates(PDEVICE_OBJECT top)
+{
+    BOOLEAN are_sent = TRUE;
     ULONG code;
     for (const char *at = getenv("WDM_CANDIDATES"); at && *at;) {
         at = next_code(at, &code);
         const BOOLEAN is_taken = !is_refused(answer_to(top, code));
         control_sent(code, is_taken);
         if (is_taken)
-            add_control(code);
+            add_control(code, IRP_MJ_DEVICE_CONTROL);
+        else
+            are_sent &= try_inside(top, code);
     }
+    return are_sent;
+}
+
+void find_controls(PDEVICE_OBJECT top)
+{
+    const NTSTATUS usual = answer_to(top, NOT_KNOWN);
+    ULONG code;
+    tell_inside(find_candidates(top));
     for (ULONG i = 0; i < 16; i++) {
         code = CTL_CODE(FILE_DEVICE_UNKNOWN, 0x800 + i / 4, i % 4, FILE_ANY_ACCESS);
         const NTSTATUS status = answer_to(top, code);
         if (!is_refused(status) && status != usual)
-            add_control(code);
+            add_control(code, IRP_MJ_DEVICE_CONTROL);
     }
     tell_controls(top);
 }

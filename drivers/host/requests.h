@@ -5,8 +5,10 @@
 #include "wdm_test.h"
 #include "situations.h"
 
-/* What is asked of a stack: a major function, a buffer's length, and the code of a control. */
-typedef struct { UCHAR major; ULONG length, code; } What;
+/* What is asked of a stack: a major function, a buffer's length, the code of a control, and each number of its input. */
+typedef struct { UCHAR major; ULONG length, code, number; } What;
+/* A control code, and the major that drivers take it by. */
+typedef struct { ULONG code; UCHAR major; } Control;
 
 /* How a request is sent. One that isn't kept is freed by the I/O manager at its end, as nearly all are on Windows. A driver
    elsewhere sends one without a file. */
@@ -50,6 +52,9 @@ void keep_own_packets(BOOLEAN keeps);
 ULONG next_timer_asleep(void);
 unsigned long timers_rung_asleep(void);
 
+/* files.c: opens the device with a name behind its own. */
+PFILE_OBJECT WdmOpenBehind(PDEVICE_OBJECT Top, PCWSTR Name, WDM_SITE at);
+
 /* Whether each device from this one down to the bottom one has a remove lock that was acquired. */
 BOOLEAN WdmHaveRemoveLocks(PDEVICE_OBJECT Top, PDEVICE_OBJECT Bottom);
 
@@ -59,9 +64,11 @@ BOOLEAN WdmIsKept(PIRP Irp);
 VOID WdmTellKept(PIRP Irp);
 VOID WdmTellHeld(PIRP Irp, const char *Over);
 
-/* What is asked for, and what a control of the i-th code asks for. */
+/* What is asked for, and what a control of the i-th code asks for. An internal one, of another driver, has room for whatever
+   its code may need. */
 What transfer(UCHAR major, ULONG length);
 What control(int i, ULONG length);
+BOOLEAN is_control(UCHAR major);
 
 /* holding.c: requests that are on their way, or held, while something happens to their device. */
 typedef struct { PDEVICE_OBJECT top; PFILE_OBJECT file; BOOLEAN has_context, is_cleaned; } Opened; /* file: NULL where none is */
@@ -84,8 +91,9 @@ void compare_answers(PDEVICE_OBJECT top, const char *over);
 
 /* The control codes that are sent: those of WDM_CONTROLS, and from `find_controls` on those of WDM_CANDIDATES, which
    stand in the drivers' source, and usual ones: all that aren't answered as a code is that nobody knows. */
-extern ULONG controls[];
+extern Control controls[];
 extern int n_controls;
+extern BOOLEAN files_have_context; /* then another driver's request has a file too */
 void read_controls(void);
 void find_controls(PDEVICE_OBJECT top);
 

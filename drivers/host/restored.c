@@ -76,7 +76,7 @@ static bool is_away(NTSTATUS status)
 static void name_of(What what, char *text, size_t size)
 {
     char code[24] = "";
-    if (what.major == IRP_MJ_DEVICE_CONTROL)
+    if (is_control(what.major))
         snprintf(code, sizeof code, " %#x", what.code);
     snprintf(text, size, "%s%s", major_name(what.major), code);
 }

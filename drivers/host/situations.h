@@ -6,12 +6,15 @@
    on its way, which such a device or a driver holds. BY_DRIVER: a driver that holds one. OF_STACK: both a stack and that. */
 #define SITUATIONS(ROW) \
     ROW(OPENED, "a file is opened and closed", ANY) \
+    ROW(NAMED, "a file opened with a name behind the device", ANY) \
     ROW(READ, "a read", ANY) \
     ROW(WRITTEN, "a write", ANY) \
     ROW(EMPTY, "a read of no bytes", ANY) \
     ROW(LENGTHS, "short, odd and large buffers", ANY) \
     ROW(CONTROLS, "each control code that the source names", ANY) \
+    ROW(NUMBERS, "large numbers in the input of controls", ANY) \
     ROW(INTERNAL, "an internal control", ANY) \
+    ROW(INTERNALS, "each internal control that the source names", ANY) \
     ROW(FLUSHED, "a flush", ANY) \
     ROW(SHUT_DOWN, "a shutdown", ANY) \
     ROW(READ_MEETS, "a write while a read is on its way", HELD) \
@@ -72,7 +75,8 @@ void not_there(Situation s, const char *why);
 void made_if(Situation s, int is, const char *why);
 /* The piece of every order that is played can't be, with these drivers. */
 void piece_not_there(const char *why);
-/* A control code of the source was sent: whether a driver takes it. */
+/* A control code of the source was sent: whether a driver takes it; whether one did so far. */
 void control_sent(unsigned code, int is_taken);
+int control_is_taken(unsigned code);
 
 #endif

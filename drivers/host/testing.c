@@ -210,6 +210,8 @@ PIRP WdmBuild(PDEVICE_OBJECT Top, UCHAR Major, UCHAR Minor, ULONG Length, PIO_ST
     if (Major == IRP_MJ_DEVICE_CONTROL || Major == IRP_MJ_INTERNAL_DEVICE_CONTROL)
         next->Parameters.DeviceIoControl.InputBufferLength =
             next->Parameters.DeviceIoControl.OutputBufferLength = Length;
+    else if (Major == IRP_MJ_CREATE)
+        ask_to_open(next);
     else
         next->Parameters.Read.Length = Length;
     if (Major != IRP_MJ_PNP && Major != IRP_MJ_POWER && Major != IRP_MJ_SYSTEM_CONTROL)

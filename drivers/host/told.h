@@ -17,6 +17,7 @@ void watch_thread(void);
 void thread_is_gone(int seat);
 void begin_last_words(void);
 void ask_places(void);
+bool has_gone_on(int seat, uint64_t called, uint64_t caller);
 const void *loop_of_others(char *text, size_t size);
 __attribute__((noreturn)) void stop_here(const char *why, const void *const *at, int n, const Frame *in, const char *hint);
 __attribute__((noreturn)) void end_at(const char *why);
@@ -66,7 +67,7 @@ void function_ran(const void *fn);
 void routine_was_called(const void *fn, bool with_error);
 void cancel_routine_set(const void *fn, bool is_called);
 void request_came(int driver, UCHAR major, UCHAR minor);
-void control_ended(int driver, ULONG status);
+void control_ended(int driver, UCHAR major, ULONG code, ULONG status);
 void learn_dispatches(void);
 void write_covered(FILE *out);
 
@@ -101,6 +102,8 @@ void after_cleanup(PFILE_OBJECT file, WDM_SITE at);
 bool before_close(PFILE_OBJECT file, WDM_SITE at);
 void check_cleanup(const Packet *p, int by, ULONG status);
 NTSTATUS open_device(PDEVICE_OBJECT top, PFILE_OBJECT *file, WDM_SITE at);
+void ask_to_open(PIO_STACK_LOCATION next);
+bool is_usual_open(const IO_STACK_LOCATION *l);
 void clean_up(PFILE_OBJECT file, WDM_SITE at);
 void await_closed(PDEVICE_OBJECT pdo, bool only_mine);
 

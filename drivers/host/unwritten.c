@@ -5,6 +5,10 @@
  * bytes as Information says come out. Here a pattern lies there in a program's control. Told is a dispatch that completes it
  * and has sent nothing: what came from another device may have come from a test's, which writes nothing. Fewer bytes in a row
  * than the layout of a structure may leave out aren't told.
+ *
+ * The same is told of bytes that a driver copies there from a block or a variable that it hasn't set: new blocks have a value
+ * of their own, and so have variables where the compiler gives them one (WDM_FILLED). The test is the host's own then, in
+ * whose input there is neither.
  */
 #include "host.h"
 
@@ -36,22 +40,41 @@ static bool is_in_dispatch(const Packet *p, int by)
     return f && f->kind == DISPATCH && f->device == by && !f->sent;
 }
 
+typedef struct { size_t first, length; } Row;
+enum { AS_PATTERN = -1 };
+
+/* The longest row of bytes of this value, or of the pattern. */
+static Row longest_row(const Packet *p, size_t from, size_t to, int value)
+{
+    Row longest = { 0, 0 };
+    for (size_t i = from, n = 0; i < to && i < p->bytes->size; i++) {
+        n = (UCHAR)p->bytes->bytes[i] == (value == AS_PATTERN ? pattern_at(i) : (UCHAR)value) ? n + 1 : 0;
+        if (n > longest.length)
+            longest = (Row){ i + 1 - n, n };
+    }
+    return longest;
+}
+
+static void tell_row(const Packet *p, Row r, uint64_t information, const char *what)
+{
+    if (r.length >= LEAST_ROW)
+        broken("Unwritten", p, "completed with Information %lu, and %s bytes %zu to %zu of the system buffer: what is in "
+               "kernel memory goes to the program", (unsigned long)information, what, r.first, r.first + r.length - 1);
+}
+
 /* A device completes it with so many bytes, of which the first ones are input. */
 void check_written(const Packet *p, int by, size_t input, uint64_t information)
 {
-    size_t row = 0, longest = 0, end = 0;
+    const char *filled = getenv("WDM_FILLED");
     if (!p->has_pattern || p->irp->AssociatedIrp.SystemBuffer != p->bytes->bytes)
         return;
     if (is_bottom(devices[by].raw))
         clear_pattern(p, input);
-    for (size_t i = input; i < information && i < p->bytes->size; i++) {
-        row = (UCHAR)p->bytes->bytes[i] == pattern_at(i) ? row + 1 : 0;
-        if (row > longest) {
-            longest = row;
-            end = i;
-        }
-    }
-    if (longest >= LEAST_ROW && is_in_dispatch(p, by))
-        broken("Unwritten", p, "completed with Information %lu, and nobody wrote bytes %zu to %zu of the system buffer: what "
-               "is in kernel memory goes to the program", (unsigned long)information, end + 1 - longest, end);
+    if (!is_in_dispatch(p, by))
+        return;
+    tell_row(p, longest_row(p, input, information, AS_PATTERN), information, "nobody wrote");
+    if (!filled)
+        return;
+    tell_row(p, longest_row(p, 0, information, FRESH_BYTE), information, "a block that isn't set was copied to");
+    tell_row(p, longest_row(p, 0, information, atoi(filled)), information, "a variable that isn't set was copied to");
 }

@@ -37,6 +37,19 @@ static NTSTATUS Write(PDEVICE_OBJECT DeviceObject, PIRP Irp)
         return Complete(Irp, STATUS_INSUFFICIENT_RESOURCES);
     return Complete(Irp, bytes[0] ? STATUS_UNSUCCESSFUL : STATUS_SUCCESS); /* told: STOPPED */
 }
+static NTSTATUS Control(PDEVICE_OBJECT DeviceObject, PIRP Irp)
+{
+    HANDLE handle = NULL;
+    PVOID event = NULL;
+    NTSTATUS status = ZwCreateEvent(&handle, EVENT_ALL_ACCESS, NULL, NotificationEvent, FALSE);
+    if (IS_RIGHT && !NT_SUCCESS(status))
+        return Complete(Irp, status);
+    ObReferenceObjectByHandle(handle, EVENT_ALL_ACCESS, *ExEventObjectType, KernelMode, &event, NULL);
+    const UCHAR type = *(volatile UCHAR *)event; /* told: STOPPED */
+    ObDereferenceObject(event);
+    ZwClose(handle);
+    return Complete(Irp, type ? STATUS_SUCCESS : STATUS_UNSUCCESSFUL);
+}
 static NTSTATUS Flushed(PDEVICE_OBJECT DeviceObject, PIRP Irp, PVOID Context)
 {
     LARGE_INTEGER moment = { .QuadPart = -10 };
@@ -82,6 +95,7 @@ NTSTATUS DriverEntry(PDRIVER_OBJECT DriverObject, PUNICODE_STRING RegistryPath)
     DriverObject->MajorFunction[IRP_MJ_READ] = Read;
     DriverObject->MajorFunction[IRP_MJ_WRITE] = Write;
     DriverObject->MajorFunction[IRP_MJ_FLUSH_BUFFERS] = Flush;
+    DriverObject->MajorFunction[IRP_MJ_DEVICE_CONTROL] = Control;
     DriverObject->DriverExtension->AddDevice = AddDevice;
     return STATUS_SUCCESS;
 }
