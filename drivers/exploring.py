@@ -176,6 +176,7 @@ class Exploration:
         piece.learn(report)
         if is_out and "schedule" not in report.facts:
             piece.is_refused = is_out == orders.REFUSED and "+" not in piece.scenario
+            self.found.covered.join(report.covered)
             self.found.covered.situate(piece.name, is_out, "apart")
             return False
         if "schedule" in report.facts:

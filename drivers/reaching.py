@@ -332,7 +332,7 @@ BUGS = [("holds", 1, "power comes back, and what is held isn't answered", "NotRe
         ("answers", 4, "a length of the input is trusted", "PoolOverrun", "PoolOverrun", "in TakeName", "--page-ends"),
         ("inside", 1, "an internal control is completed twice", "CompletedTwice", "CompletedTwice", "in Complete"),
         ("inside", 2, "an internal control beside itself", "BugCheck", None, "in Inside",
-         "--every-order", "--preemptions", "1", "--processes", "1", "--judge", "1")]
+         "--every-order", "--processes", "1", "--judge", "1")]
 
 
 def bugs(bench, name):
