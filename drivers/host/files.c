@@ -242,7 +242,8 @@ bool is_usual_open(const IO_STACK_LOCATION *l)
 {
     IO_STACK_LOCATION usual = { 0 };
     ask_to_open(&usual);
-    return l->MajorFunction == IRP_MJ_CREATE && !l->Flags && !memcmp(&l->Parameters, &usual.Parameters, sizeof usual.Parameters);
+    return l->MajorFunction == IRP_MJ_CREATE && !l->Flags &&
+        !memcmp(&l->Parameters, &usual.Parameters, sizeof usual.Parameters);
 }
 
 /* An exclusive device is opened once. */

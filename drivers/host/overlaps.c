@@ -220,7 +220,8 @@ static Act act_of(const char *what, PFILE_OBJECT file)
     const BOOLEAN is_internal = *what == 'i';
     const ULONG code = (ULONG)strtoul(what + is_internal, NULL, 0);
     if (code)
-        return (Act){ is_internal ? IRP_MJ_INTERNAL_DEVICE_CONTROL : IRP_MJ_DEVICE_CONTROL, is_internal ? 4096 : 16, code, file };
+        return is_internal ? (Act){ IRP_MJ_INTERNAL_DEVICE_CONTROL, 4096, code, file } :
+            (Act){ IRP_MJ_DEVICE_CONTROL, 16, code, file };
     return (Act){ strcmp(what, "write") ? IRP_MJ_READ : IRP_MJ_WRITE, strcmp(what, "long") ? 16 : 64, 0, file };
 }
 

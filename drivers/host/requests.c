@@ -56,7 +56,8 @@ BOOLEAN start_request(Request *r, PDEVICE_OBJECT top, What what, How how)
         ((PULONG)r->irp->UserBuffer)[i] = what.number;
     if (what.major == IRP_MJ_DEVICE_CONTROL && what.length == ANSWER_IS_LONGER)
         IoGetNextIrpStackLocation(r->irp)->Parameters.DeviceIoControl.InputBufferLength = 16;
-    if ((how & WITHOUT_FILE) || (what.major == IRP_MJ_INTERNAL_DEVICE_CONTROL && !files_have_context)) { /* another driver's */
+    const BOOLEAN is_internal = what.major == IRP_MJ_INTERNAL_DEVICE_CONTROL;
+    if ((how & WITHOUT_FILE) || (is_internal && !files_have_context)) { /* another driver's */
         IoGetNextIrpStackLocation(r->irp)->FileObject = r->irp->Tail.Overlay.OriginalFileObject = NULL;
         r->irp->RequestorMode = KernelMode;
     }

@@ -1,6 +1,6 @@
-/* answers.c: a driver that answers a control with a structure, most of which it sets. BUG names a mistake: 1, the structure is a
-   variable that isn't cleared before; 2, it lies in a block that isn't; 3, an open with a name behind the device, which it refuses,
-   is completed twice; 4, it trusts a length that a program sends. */
+/* answers.c: a driver that answers a control with a structure, most of which it sets. BUG names a mistake: 1, the structure
+   is a variable that isn't cleared before; 2, it lies in a block that isn't; 3, an open with a name behind the device, which
+   it refuses, is completed twice; 4, it trusts a length that a program sends. */
 #include <wdm.h>
 
 #ifndef BUG
