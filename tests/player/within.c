@@ -1,5 +1,5 @@
-/* within.c: steps that are made within a dispatch or routine, as drivers make them: a completion in the dispatch that has
-   marked its packet; what a party does with a packet once a routine has kept it for it; a forward that waits until its
+/* within.c: steps that are made within a dispatch or routine, as drivers make them: a completion in the dispatch that
+   has marked its packet; what a party does with a packet once a routine has kept it for it; a forward that waits until its
    packet is back. Other steps there the recorder takes for a part of the dispatch's plan. */
 #include "state.h"
 
