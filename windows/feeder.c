@@ -17,6 +17,19 @@ static void fail(const char *what)
     exit(2);
 }
 
+/* A system that has just started may lock its services for a while. */
+static BOOL start_service(SC_HANDLE service)
+{
+    for (int seconds = 0; seconds < 120; seconds++) {
+        if (StartServiceA(service, 0, NULL))
+            return TRUE;
+        if (GetLastError() != ERROR_SERVICE_DATABASE_LOCKED)
+            return FALSE;
+        Sleep(1000);
+    }
+    return FALSE;
+}
+
 static SC_HANDLE start(const char *path)
 {
     char full[MAX_PATH];
@@ -35,7 +48,7 @@ static SC_HANDLE start(const char *path)
             ChangeServiceConfigA(service, SERVICE_NO_CHANGE, SERVICE_NO_CHANGE, SERVICE_NO_CHANGE, full, NULL, NULL, NULL,
                                  NULL, NULL, NULL);
     }
-    if (!service || !StartServiceA(service, 0, NULL))
+    if (!service || !start_service(service))
         fail("the driver doesn't start (is test signing on? does one of an earlier call run still?)");
     return service;
 }

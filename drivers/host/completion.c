@@ -127,6 +127,7 @@ static void unwind(Packet *p, Entry *e)
             set_pending_bit(p, j + 1, l.real);
         }
         clear_location(p, j);
+        p->touched = false;
         p->current = j + 1;
         if (j == p->size) {
             end(p, e);

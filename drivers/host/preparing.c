@@ -70,9 +70,9 @@ PIO_STACK_LOCATION WdmIoGetNextIrpStackLocation(PIRP Irp, WDM_SITE at)
     Packet *p = find(Irp);
     const bool in_routine = p->asking && p->asking->kind == ROUTINE && on_top(p) == p->asking;
     const int here = p->current + (in_routine || (p->skipped && p->asking) ? 1 : 0);
-    if (here > 1 && !in_routine && lives(p) && !p->touched && !p->copied && p->prep == NOTHING)
+    if (here > 1 && lives(p) && !p->touched && !p->copied && p->prep == NOTHING)
         raw_at(p, here - 1)->MajorFunction = NO_MAJOR;
-    p->touched |= !in_routine;
+    p->touched = true;
     if (lives(p) && here == 1) {
         settle(p, false);
         refuse(begin(SET_NEXT, p, party(p)), "TooShort");

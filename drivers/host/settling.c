@@ -49,10 +49,7 @@ void routine_kept(Packet *p, Frame *f)
         fault_of("Mark", p, f, "marks a packet in which it has no location");
     if (f->location < p->size)
         pend_setter(p, f->location + 1, below, "it forwards unmarked, and its routine keeps");
-    if (f->device == ORIGINATOR && !is_in_page(p->irp))
-        p->at[f->location] = (Location){ .device = NOBODY }; /* its memory may have gone, once the routine let go of it */
-    else
-        clear_location(p, f->location);
+    p->at[f->location] = (Location){ .device = NOBODY }; /* its memory is as the routine left it, perhaps filled anew, or gone */
     p->current = f->location + 1;
     p->owner = f->device;
     p->asking = NULL;

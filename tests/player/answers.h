@@ -1,7 +1,7 @@
 /* answers.h: what the programs around the player share. Of each script they write an answer: the line `@ NUMBER HOW
-   BYTES MADE PENDED OUTSIDE ADOPTED LOST`, then as many bytes of transcript, then a line with the replies of the steps.
-   HOW is how it ended, or `crash` or `hang`, where MADE is the place of the step that it comes from; the last four are
-   the recorder's counts. */
+   BYTES MADE PENDED OUTSIDE ADOPTED LOST WITHIN`, then as many bytes of transcript, then a line with the replies of the
+   steps. HOW is how it ended, or `crash` or `hang`, where MADE is the place of the step that it comes from; then come the
+   recorder's counts, and how many steps were made within a dispatch or routine. */
 #include "player.h"
 #include "recorder.h"
 #include <signal.h>
@@ -22,8 +22,8 @@ static void write_answer(const char *how, size_t made)
         _Exit(2);
     IrpxTranscript(text, n);
     IrpxCount(&counts);
-    printf("@ %ld %s %lu %lu %d %d %d %d\n", playing, how, (unsigned long)n, (unsigned long)made, counts.pended,
-           counts.outside, counts.adopted, counts.lost);
+    printf("@ %ld %s %lu %lu %d %d %d %d %lu\n", playing, how, (unsigned long)n, (unsigned long)made, counts.pended,
+           counts.outside, counts.adopted, counts.lost, (unsigned long)PlayCountWithin());
     fwrite(text, 1, n, stdout);
     for (size_t k = 0; k < made; k++)
         printf("%llu ", (unsigned long long)replies[k]);
@@ -49,7 +49,8 @@ static void crashed(int number)
 
 static PLAY_THREADS threads_of(const char *word)
 {
-    return !strcmp(word, "at_once") ? PLAY_AT_ONCE : !strcmp(word, "by_turns") ? PLAY_BY_TURNS : PLAY_ONE_THREAD;
+    return !strcmp(word, "at_once") ? PLAY_AT_ONCE : !strcmp(word, "by_turns") ? PLAY_BY_TURNS :
+        !strcmp(word, "within") ? PLAY_WITHIN : PLAY_ONE_THREAD;
 }
 
 /* Calls `play` for each script of the file from number `first` on. Returns the exit status. */

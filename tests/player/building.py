@@ -11,7 +11,7 @@ TOP = os.path.dirname(os.path.dirname(HERE))
 DRIVERS = TOP + "/drivers"
 sys.path.append(DRIVERS)
 import folders  # noqa: E402 (the path is set above)
-PLAYER = ["routines", "locks", "steps", "seats", "feed"]  # these, and create, are recorded
+PLAYER = ["routines", "within", "locks", "steps", "seats", "feed"]  # these, and create, are recorded
 RECORDER = sorted(it[:-2] for it in os.listdir(DRIVERS + "/recorder") if it.endswith(".c"))
 # The tests of the host: each has a `main`, or serves one.
 HOSTS_OWN = ("exercise", "holding", "restored", "requests", "overlaps", "named_tests")

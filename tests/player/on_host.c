@@ -1,11 +1,11 @@
 /* on_host.c: `player FEEDS FIRST THREADS` plays the scripts of a file on the host of drivers/, each in a process of its
-   own, and writes their answers (answers.h). THREADS is `one`, `by_turns` or `at_once`. */
+   own, and writes their answers (answers.h). THREADS is `one`, `by_turns`, `at_once` or `within`. */
 #include "answers.h"
 #include "wdm_test.h"
 #include <sys/wait.h>
 #include <unistd.h>
 
-enum { PATIENCE = 10 }; /* seconds for a script */
+enum { PATIENCE = 120 }; /* seconds for a script: a machine may be slow */
 
 static void hung(int number)
 {

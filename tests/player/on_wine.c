@@ -1,5 +1,5 @@
 /* on_wine.c: `player.exe FEEDS FIRST THREADS` plays the scripts of a file on Wine's manager, which is loaded into the
-   program, and writes their answers (answers.h). THREADS is `one`, `by_turns` or `at_once`. A crash or a hang ends the
+   program, and writes their answers (answers.h). THREADS is `one`, `by_turns`, `at_once` or `within`. A crash or a hang ends the
    program; whoever started it goes on behind that script. */
 #include "answers.h"
 #include "loading.h"

@@ -21,8 +21,9 @@ typedef enum { PLAY_DONE, PLAY_PARTED, PLAY_BAD_FEED, PLAY_NO_DEVICE, PLAY_NO_TH
 extern const char *const PlayEnds[PLAY_ENDS];
 
 /* All steps on the caller's thread; or each seat's on a thread of its own, in the script's order; or each seat's on a
-   thread of its own, all at once behind the setup: a step whose packet isn't its party's at the moment is left out. */
-typedef enum { PLAY_ONE_THREAD, PLAY_BY_TURNS, PLAY_AT_ONCE } PLAY_THREADS;
+   thread of its own, all at once behind the setup: a step whose packet isn't its party's at the moment is left out; or by
+   turns, where a party's next steps on its packet are made within the dispatch or routine that has it (within.c). */
+typedef enum { PLAY_ONE_THREAD, PLAY_BY_TURNS, PLAY_AT_ONCE, PLAY_WITHIN } PLAY_THREADS;
 
 /* Has the manager call this DriverEntry for a driver of this number, whose object has only the manager's own
    dispatches. Returns whether it did. */
@@ -33,8 +34,9 @@ typedef BOOLEAN PLAY_LOAD(unsigned Number, PDRIVER_INITIALIZE Entry);
 PLAY_END PlayScript(const uint64_t *Words, size_t Count, PLAY_THREADS Threads, PLAY_LOAD *Load, uint64_t *Replies,
                     size_t *Made);
 
-/* The place of the step that is made now, or was made last. */
+/* The place of the step that is made now, or was made last; how many steps were made within a dispatch or routine. */
 size_t PlayPlace(VOID);
+size_t PlayCountWithin(VOID);
 
 /* Afterwards, once the transcript has been read: gives everything back, behind the recorder's back. */
 VOID PlayTakeDown(VOID);

@@ -29,10 +29,16 @@ static NTSTATUS completed(unsigned i, PDEVICE_OBJECT DeviceObject, PIRP Irp)
 {
     const PLAY_COMPLETION *c = &play.Completions[i];
     const PLAY_BEHAVIOUR *b = NT_SUCCESS(Irp->IoStatus.Status) ? &c->OnOk : &c->OnError;
+    const LONG party = DeviceObject ? PlayExtension(DeviceObject)->Number : PLAY_ORIGINATOR;
+    const uint64_t bit = DeviceObject ? 1ull << party : 0;
+    PLAY_PACKET *p = packet_of(Irp);
     if (b->Kind == BEHAVIOUR_KEEP) {
-        packet_of(Irp)->Owner = DeviceObject ? PlayExtension(DeviceObject)->Number : PLAY_ORIGINATOR;
+        p->Owner = party;
+        if (!(p->Waits & bit))
+            PlayWithin(p, party, PLAY_IN_ROUTINE);
         return STATUS_MORE_PROCESSING_REQUIRED;
     }
+    p->Waits &= ~bit;
     if (b->Kind == BEHAVIOUR_REPLACE) {
         Irp->IoStatus.Status = (NTSTATUS)b->Status;
         Irp->IoStatus.Information = (ULONG_PTR)b->Information;
@@ -86,16 +92,36 @@ static NTSTATUS hold(const PLAY_PLAN *plan, PDEVICE_OBJECT DeviceObject, PIRP Ir
     if (plan->Cancel && Irp->Cancel)
         return finish(Irp, STATUS_CANCELLED, 0);
     IoMarkIrpPending(Irp);
-    packet_of(Irp)->Owner = PlayExtension(DeviceObject)->Number;
+    PLAY_PACKET *p = packet_of(Irp);
+    p->Owner = PlayExtension(DeviceObject)->Number;
     if (plan->Cancel) {
         (void)IoSetCancelRoutine(Irp, PlayCancels[plan->Cancel - 1]);
         if (Irp->Cancel && IoSetCancelRoutine(Irp, NULL))
             PlayFinish(Irp, STATUS_CANCELLED, 0);
+    } else
+        PlayWithin(p, p->Owner, PLAY_IN_HOLD);
+    return STATUS_PENDING;
+}
+
+/* Pends the packet, and passes it down. Where the routine may keep it, the dispatch may wait for that. */
+static NTSTATUS forward_pending(const PLAY_PLAN *plan, LONG number, PDEVICE_OBJECT lower, PIRP Irp)
+{
+    const PLAY_COMPLETION *c = plan->Set.Routine ? &play.Completions[plan->Set.Routine - 1] : NULL;
+    const BOOLEAN waits = play.Threads == PLAY_WITHIN && c &&
+        (c->OnOk.Kind == BEHAVIOUR_KEEP || c->OnError.Kind == BEHAVIOUR_KEEP);
+    const PLAY_STEP *sent = play.Now;
+    PLAY_PACKET *p = packet_of(Irp);
+    if (waits)
+        p->Waits |= 1ull << number;
+    (void)IoCallDriver(lower, Irp);
+    if (waits) {
+        PlayAwait(p, number, sent);
+        p->Waits &= ~(1ull << number);
     }
     return STATUS_PENDING;
 }
 
-static NTSTATUS pass_down(const PLAY_PLAN *plan, PDEVICE_OBJECT lower, PIRP Irp)
+static NTSTATUS pass_down(const PLAY_PLAN *plan, LONG number, PDEVICE_OBJECT lower, PIRP Irp)
 {
     if (plan->Kind == PLAN_SKIP) {
         IoSkipCurrentIrpStackLocation(Irp);
@@ -106,19 +132,19 @@ static NTSTATUS pass_down(const PLAY_PLAN *plan, PDEVICE_OBJECT lower, PIRP Irp)
     IoCopyCurrentIrpStackLocationToNext(Irp);
     if (plan->Set.Routine)
         PlaySetRoutine(Irp, &plan->Set);
-    const NTSTATUS status = IoCallDriver(lower, Irp);
-    return plan->Kind == PLAN_FORWARD_PEND ? STATUS_PENDING : status;
+    return plan->Kind == PLAN_FORWARD_PEND ? forward_pending(plan, number, lower, Irp) : IoCallDriver(lower, Irp);
 }
 
 static NTSTATUS dispatched(unsigned i, PDEVICE_OBJECT DeviceObject, PIRP Irp)
 {
     const PLAY_PLAN *plan = &play.Dispatches[i];
+    const LONG number = PlayExtension(DeviceObject)->Number;
     PDEVICE_OBJECT lower = PlayExtension(DeviceObject)->Lower;
     if (plan->Kind == PLAN_FINISH)
         return finish(Irp, (NTSTATUS)plan->Status, (ULONG_PTR)plan->Information);
     if (plan->Kind == PLAN_HOLD)
         return hold(plan, DeviceObject, Irp);
-    return lower ? pass_down(plan, lower, Irp) : finish(Irp, STATUS_INVALID_DEVICE_REQUEST, 0);
+    return lower ? pass_down(plan, number, lower, Irp) : finish(Irp, STATUS_INVALID_DEVICE_REQUEST, 0);
 }
 
 #define DISPATCH(n) \

@@ -9,7 +9,7 @@ import tempfile
 
 import building
 
-ONE_THREAD, BY_TURNS, AT_ONCE = "one", "by_turns", "at_once"
+ONE_THREAD, BY_TURNS, AT_ONCE, WITHIN = "one", "by_turns", "at_once", "within"
 SECONDS = 600  # for as many scripts as are played together
 LEFT_OUT = 2**64 - 1
 MOST_THREADS = 60  # the recorder has 64 seats
@@ -78,7 +78,7 @@ def read_answers(out, first_only=False):
         stop = out.find(b"\n", end + 1 + n)
         replies = [int(it) for it in out[end + 1 + n:stop].split()]
         if not first_only or number not in found:
-            found[number] = Record(how, text, made, replies, [int(it) for it in words[5:9]])
+            found[number] = Record(how, text, made, replies, [int(it) for it in words[5:10]])
         at = stop + 1
     return found
 

@@ -25,12 +25,25 @@ static VOID run_at_once(unsigned seat)
 static VOID run_by_turns(unsigned seat)
 {
     for (;;) {
-        KeWaitForSingleObject(&play.Turn[seat], Executive, KernelMode, FALSE, NULL);
+        if (!play.HasTurn[seat])
+            KeWaitForSingleObject(&play.Turn[seat], Executive, KernelMode, FALSE, NULL);
+        play.HasTurn[seat] = FALSE;
         if (play.Ends)
             return;
-        play.End = PlayStep(play.Now, play.Reply);
+        const PLAY_END end = PlayStep(play.Now, play.Reply);
+        if (play.HasTurn[seat])
+            continue; /* this step was handed on, and another one came meanwhile */
+        play.End = end;
         KeSetEvent(&play.Done, IO_NO_INCREMENT, FALSE);
     }
+}
+
+VOID PlayHandOn(unsigned Seat)
+{
+    play.End = PLAY_DONE;
+    KeSetEvent(&play.Done, IO_NO_INCREMENT, FALSE);
+    KeWaitForSingleObject(&play.Turn[Seat], Executive, KernelMode, FALSE, NULL);
+    play.HasTurn[Seat] = TRUE;
 }
 
 static VOID NTAPI run_seat(PVOID Context)
@@ -86,7 +99,7 @@ static size_t play_by_turns(VOID)
     size_t k = 0;
     KeInitializeEvent(&play.Done, SynchronizationEvent, FALSE);
     while (k < play.nSteps && (play.End = make_turn(&play.Steps[k], &play.Replies[k])) == PLAY_DONE)
-        k++;
+        k = play.Threads == PLAY_WITHIN ? PlayPlace() + 1 : k + 1;
     const PLAY_END end = play.End;
     play.Ends = TRUE;
     for (unsigned seat = 0; seat < PLAY_SEATS; seat++)

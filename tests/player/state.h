@@ -35,6 +35,7 @@ typedef struct {
 typedef struct {
     PIRP Irp;   /* NULL: none, or gone */
     LONG Owner; /* a device's number, PLAY_ORIGINATOR, or PLAY_GONE once it is completed and nobody has kept it */
+    uint64_t Waits; /* a bit for each device whose dispatch waits until the packet is back */
 } PLAY_PACKET;
 
 typedef struct { unsigned Lock; uint64_t Tag; } PLAY_HELD;
@@ -57,6 +58,8 @@ typedef struct {
     unsigned nHeld;
     KEVENT Turn[PLAY_SEATS], Done, Start; /* it is a seat's turn; its step is made; all may start */
     BOOLEAN HasThread[PLAY_SEATS], Ends;
+    BOOLEAN HasTurn[PLAY_SEATS]; /* a dispatch that waits has taken the seat's next turn, and hasn't used it */
+    size_t nWithin;
     const PLAY_STEP *Now;
     uint64_t *Reply, *Replies;
     PLAY_END End;
@@ -85,8 +88,15 @@ BOOLEAN PlayOnLocks(const PLAY_STEP *Step, uint64_t *Reply);
 VOID PlayEndRemovers(VOID);
 VOID PlayPause(LONG Milliseconds);
 
-/* seats.c: plays all steps, and returns how many were made. */
+/* seats.c: plays all steps, and returns how many were made. Hands the turn on from within a step, and waits for the next
+   one of its seat. */
 size_t PlaySeats(VOID);
+VOID PlayHandOn(unsigned Seat);
+
+/* within.c */
+typedef enum { PLAY_IN_HOLD, PLAY_IN_ROUTINE, PLAY_IN_FORWARD } PLAY_MOMENT;
+VOID PlayWithin(PLAY_PACKET *Packet, LONG Owner, PLAY_MOMENT Moment);
+VOID PlayAwait(PLAY_PACKET *Packet, LONG Owner, const PLAY_STEP *Sent);
 
 /* feed.c: reads the feed into `play`. Returns whether it is one. */
 BOOLEAN PlayTakeFeed(const uint64_t *Words, size_t Count, PLAY_LOAD *Load);

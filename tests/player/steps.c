@@ -4,14 +4,18 @@
 PLAY_STATE play;
 
 /* The script's SetNext clears a routine that was set before. Zeroing the location by hand isn't seen by the recorder,
-   so no routine is set first. */
+   so no routine is set first. A word of 33 to 40 bits has a minor in its upper eight, as the recorder writes one. */
 static VOID set_next(PIRP irp, const PLAY_STEP *s)
 {
     PIO_STACK_LOCATION next = IoGetNextIrpStackLocation(irp);
-    const ULONG word[2] = { (ULONG)s->C, (ULONG)(s->C >> 32) };
+    ULONG word[2] = { (ULONG)s->C, (ULONG)(s->C >> 32) };
     IoSetCompletionRoutine(irp, NULL, NULL, FALSE, FALSE, FALSE);
     RtlZeroMemory(next, sizeof *next);
     next->MajorFunction = (UCHAR)s->B;
+    if (word[1] <= 255) {
+        next->MinorFunction = (UCHAR)word[1];
+        word[1] = 0;
+    }
     RtlCopyMemory(&next->Parameters, word, sizeof word);
 }
 
@@ -82,6 +86,7 @@ static BOOLEAN allocate(PLAY_PACKET *p, const PLAY_STEP *s)
     p->Irp = IoAllocateIrp((CCHAR)s->B, FALSE);
     PlayNumberPacket(p->Irp, s->A);
     p->Owner = PLAY_ORIGINATOR;
+    p->Waits = 0;
     return p->Irp != NULL;
 }
 
@@ -101,7 +106,7 @@ static BOOLEAN on_packets(const PLAY_STEP *s, uint64_t *reply)
     switch (s->Do) {
     case DO_ALLOCATE: return allocate(p, s);
     case DO_FREE: p->Irp = NULL; IoFreeIrp(irp); break;
-    case DO_REUSE: IoReuseIrp(irp, (NTSTATUS)s->B); PlayNumberPacket(irp, s->A); break;
+    case DO_REUSE: IoReuseIrp(irp, (NTSTATUS)s->B); PlayNumberPacket(irp, s->A); p->Waits = 0; break;
     case DO_SET_NEXT: set_next(irp, s); break;
     case DO_COPY: IoCopyCurrentIrpStackLocationToNext(irp); break;
     case DO_SKIP: IoSkipCurrentIrpStackLocation(irp); break;

@@ -16,6 +16,7 @@ import building  # noqa: E402 (the path is set above)
 import conditions  # noqa: E402
 import kinds  # noqa: E402
 import making  # noqa: E402
+import refusals  # noqa: E402
 import running  # noqa: E402
 import scripts  # noqa: E402
 import simulated  # noqa: E402
@@ -47,7 +48,7 @@ class Bench:
     """What was tried, by kind."""
 
     def __init__(self):
-        self.model, self.manager, self.tried, self.room = running.Model(), running.Manager(), {}, None
+        self.model, self.manager, self.tried, self.room, self.within = running.Model(), running.Manager(), {}, None, 0
 
     def count(self, kind, name, wrong):
         done, bad = self.tried.get(kind, (0, 0))
@@ -57,6 +58,7 @@ class Bench:
 
     def equal(self, kind, name, p, record, with_seats):
         """One script has to be equal to the model, and legal."""
+        self.within += record.counts[4] if record else 0
         told, difference = kinds.kind_of(p, record, with_seats)
         verdict = self.model.judge(record.text) if record else ""
         legal = f"legal {sum('n' in it for it in record.lines)}" if record else ""
@@ -67,11 +69,12 @@ class Bench:
 def try_examples(bench):
     paths = sorted(glob.glob(EXAMPLES + "/*/*.script"))
     many = [scripts.read(it, bench.model) for it in paths]
-    for threads in (running.ONE_THREAD, running.BY_TURNS):
+    for threads in (running.ONE_THREAD, running.BY_TURNS, running.WITHIN):
         some = [it for it in many if threads == running.ONE_THREAD or it.script["seats"] <= running.MOST_THREADS]
         for script, record in zip(some, bench.manager.play([it.feed for it in some], threads)):
             name = os.path.relpath(script.name, EXAMPLES)
-            bench.equal("played examples", name, script.playable, record, threads == running.BY_TURNS)
+            bench.equal("played examples", name, script.playable, record, threads != running.ONE_THREAD)
+    bench.count("played examples", "steps within a dispatch or routine", bench.within < 20 and f"only {bench.within}")
     words = EXAMPLES + "/practice/completed_twice.words"
     bench.count("played examples", words, scripts.as_json(words) != scripts.as_json(words[:-5] + "script") and
                 "its JSON isn't that of the script")
@@ -88,10 +91,10 @@ def try_refusing(bench):
 
 
 def try_made(bench):
-    """Scripts that nobody refuses, on one thread, by turns, and with all seats at once."""
-    for threads in (running.ONE_THREAD, running.BY_TURNS, running.AT_ONCE):
+    """Scripts that nobody refuses, on one thread, by turns, within dispatches and routines, and with all seats at once."""
+    for threads in (running.ONE_THREAD, running.BY_TURNS, running.WITHIN, running.AT_ONCE):
         at_once = threads == running.AT_ONCE
-        many = [making.Made(random.Random(f"player {n}"), apart=at_once) for n in range(RANDOM // 6)]
+        many = [making.Made(random.Random(f"player {n}"), apart=at_once) for n in range(RANDOM // 8 + 1)]
         for n, (p, record) in enumerate(zip(many, bench.manager.play([it.feed() for it in many], threads))):
             if at_once:
                 told = kinds.kind_at_once(p, record) if record else (kinds.NEW, "nothing came back")
@@ -101,6 +104,21 @@ def try_made(bench):
             else:
                 told = kinds.kind_of_made(p, record, threads != running.ONE_THREAD)
                 bench.count("played scripts by chance", f"{threads} {n}", told[0] != kinds.EQUAL and told)
+
+
+def try_minor(bench):
+    """A power packet's minor reaches each dispatch as the script has it."""
+    word, devices = 2 << 32 | 3, [{"seat": 0, "do": "create_device", "driver": it, "lock": it} for it in range(2)]
+    steps = ["allocate 2 a", f"set_next o a 22 {word}", "set_routine o a keeper", "call_driver o a 1"]
+    script = {"form": 1, "seats": 1, "locks": 2, "completions": [["keeper", "keep", "keep"]], "cancels": [],
+              "dispatches": [["finish", 0, 5], ["forward", None]], "drivers": [[[22, 0]], [[22, 1]]],
+              "setup": [*devices, {"seat": 0, "do": "attach", "device": 1, "to": 0}],
+              "steps": [refusals.step_of(it) for it in steps]}
+    it = scripts.Script("a minor", script, bench.model)
+    record = bench.manager.play([it.feed])[0]
+    bench.equal("played scripts by chance", it.name, it.playable, record, False)
+    shown = [a["shown"][5] for e in record.lines[1:] for a in e["asked"]] if record else []
+    bench.count("played scripts by chance", "its word", shown != [word] * 3 and f"shown {shown}, not {word}")
 
 
 def try_simulation(bench):
@@ -203,7 +221,7 @@ def main():
         return 1
     with tempfile.TemporaryDirectory() as room:
         bench.room = room
-        for it in (try_rows, try_refused, try_conditions, try_examples, try_refusing, try_made, try_simulation):
+        for it in (try_rows, try_refused, try_conditions, try_examples, try_refusing, try_made, try_minor, try_simulation):
             it(bench)
         try:
             try_planted(bench, room)

@@ -155,7 +155,7 @@ WAITS = ("1668", "1694", "1703", *(f"{line}@{caller}" for line in (1438, 1441, 1
                                    (1606, 1610, 1655, 1659, 1664, 1669, 1687, 1691, 1695, 1699, 1704)))
 FAILS = {
     "driver.c": {
-        "114": "an event of the user's, which this test hasn't", "451": "there is one process, the system's",
+        "451": "there is one process, the system's",
         "498": "APCs count as disabled at no level; Windows shows both", "2030": ONE, "2054": ONE,
         **dict.fromkeys(WAITS, "on a slow machine: the thread that it waits a moment for hasn't come"),
     },
