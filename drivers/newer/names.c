@@ -39,21 +39,19 @@ static VOID Work(PEXTENSION ext)
     Await(ext);
     ExInitializeWorkItem(&ext->Plain, Plainly, ext);
     ExQueueWorkItem(&ext->Plain, DelayedWorkQueue);
-#if WRONG == 1
-    ExQueueWorkItem(&ext->Plain, DelayedWorkQueue); /* told 1, by --every-order: QueuedTwice */
-#endif
+    if (WRONG == 1)
+        ExQueueWorkItem(&ext->Plain, DelayedWorkQueue); /* told 1, by --every-order: QueuedTwice */
     Await(ext);
     ExQueueWorkItem(&ext->Plain, DelayedWorkQueue); /* its routine has it no more */
     Await(ext);
     WDM_CHECK(ext->Ran == 3);
-#if WRONG == 5
-    IoQueueWorkItemEx(ext->Item, WithItem, DelayedWorkQueue, ext);
-#endif
-#if WRONG != 2
-    if (WRONG != 5)
-        IoUninitializeWorkItem(ext->Item);
-    ExFreePoolWithTag(ext->Item, 'krow'); /* told 5, by --every-order: UsedInFreedMemory */
-#endif
+    if (WRONG == 5)
+        IoQueueWorkItemEx(ext->Item, WithItem, DelayedWorkQueue, ext);
+    if (WRONG != 2) {
+        if (WRONG != 5)
+            IoUninitializeWorkItem(ext->Item);
+        ExFreePoolWithTag(ext->Item, 'krow'); /* told 5, by --every-order: UsedInFreedMemory */
+    }
 }
 
 static NTSTATUS Control(PDEVICE_OBJECT DeviceObject, PIRP Irp)
@@ -85,9 +83,8 @@ static NTSTATUS Cleanup(PDEVICE_OBJECT DeviceObject, PIRP Irp)
     PFILE_OBJECT file = IoGetCurrentIrpStackLocation(Irp)->FileObject;
     UNREFERENCED_PARAMETER(DeviceObject);
     IoRemoveShareAccess(file, &shared); /* told 3: ShareAccess */
-#if WRONG == 3
-    IoRemoveShareAccess(file, &shared);
-#endif
+    if (WRONG == 3)
+        IoRemoveShareAccess(file, &shared);
     return Complete(Irp, STATUS_SUCCESS, 0);
 }
 
@@ -147,9 +144,8 @@ static VOID Bits(VOID)
     WDM_CHECK(RtlAreBitsSet(&map, 0, 70));
     RtlClearAllBits(&map);
     WDM_CHECK(RtlFindMostSignificantBit(0x8001) == 15 && RtlFindLeastSignificantBit(0x18) == 3 && RtlFindLeastSignificantBit(0) == -1);
-#if WRONG == 4
-    RtlSetBits(&map, 60, 11); /* told 4: BitRange */
-#endif
+    if (WRONG == 4)
+        RtlSetBits(&map, 60, 11); /* told 4: BitRange */
 }
 
 static VOID Sums(VOID)

@@ -40,7 +40,7 @@ static NTSTATUS Entry(PDRIVER_OBJECT DriverObject, PUNICODE_STRING RegistryPath)
     status = IoCreateDevice(DriverObject, 0, &name, FILE_DEVICE_UNKNOWN, 0, FALSE, &upper);
     if (!NT_SUCCESS(status))
         return status;
-    WDM_CHECK((IoAttachDeviceToDeviceStack(upper, lower) != NULL) == (WRONG == 1));
+    WDM_CHECK((IoAttachDeviceToDeviceStack(upper, lower) != NULL) == (WRONG == 1)); /* told 1: Check */
     lower->Flags &= ~(ULONG)DO_DEVICE_INITIALIZING;
     WDM_CHECK(IoAttachDeviceToDeviceStack(upper, lower) == lower);
     WDM_CHECK(upper->AlignmentRequirement == FILE_512_BYTE_ALIGNMENT && upper->SectorSize == 512);
@@ -53,7 +53,7 @@ static PFILE_OBJECT OpenUpper(VOID)
     PFILE_OBJECT file = NULL;
     PDEVICE_OBJECT device = NULL;
     WDM_CHECK(IoGetDeviceObjectPointer(&name, FILE_READ_DATA, &file, &device) == STATUS_SUCCESS && device == upper);
-    WDM_CHECK(file->DeviceObject == (WRONG == 2 ? upper : lower) && IoGetRelatedDeviceObject(file) == upper);
+    WDM_CHECK(file->DeviceObject == (WRONG == 2 ? upper : lower) && IoGetRelatedDeviceObject(file) == upper); /* told 2: Check */
     WDM_CHECK(lower->ReferenceCount == 1 && !upper->ReferenceCount);
     return file;
 }
@@ -71,9 +71,8 @@ int main(void)
     PFILE_OBJECT file = OpenUpper();
     Delete();
     WDM_CHECK(lower->ReferenceCount == 1 && WdmSend(lower, IRP_MJ_READ, 0, 8) == STATUS_SUCCESS && reads == 1);
-#if WRONG == 3
-    IoDeleteDevice(lower);
-#endif
+    if (WRONG == 3)
+        IoDeleteDevice(lower); /* told 3: DeviceGone */
     ObDereferenceObject(file);
     return WdmFinish();
 }
