@@ -155,7 +155,8 @@ static VOID Sums(VOID)
     LONG signed_one;
     SIZE_T size;
     WDM_CHECK(RtlULongAdd(1, 2, &sum) == STATUS_SUCCESS && sum == 3);
-    WDM_CHECK(RtlULongAdd(0xffffffff, 1, &sum) == STATUS_INTEGER_OVERFLOW && sum == 0xffffffff);
+    WDM_CHECK(RtlULongAdd(0xffffffff, 1, &sum) == STATUS_INTEGER_OVERFLOW);
+    WDM_CHECK(sum == (WRONG == 7 ? 0 : 0xffffffff)); /* told 7: Check */
     WDM_CHECK(RtlULongSub(1, 2, &sum) == STATUS_INTEGER_OVERFLOW && RtlULongMult(0x10000, 0x10000, &sum) == STATUS_INTEGER_OVERFLOW);
     WDM_CHECK(RtlLongAdd(0x7fffffff, 1, &signed_one) == STATUS_INTEGER_OVERFLOW && RtlLongSub(-1, 5, &signed_one) == 0 && signed_one == -6);
     WDM_CHECK(RtlSizeTMult(1ull << 40, 1ull << 23, &size) == STATUS_SUCCESS && size == 1ull << 63);
@@ -168,7 +169,12 @@ static VOID Sums(VOID)
 static VOID Names(VOID)
 {
     UNICODE_STRING pool = RTL_CONSTANT_STRING(L"ExAllocatePool2"), none = RTL_CONSTANT_STRING(L"IoMakesNoSuchThing");
-    PVOID (*allocate)(ULONGLONG, SIZE_T, ULONG) = MmGetSystemRoutineAddress(&pool);
+    KIRQL irql = PASSIVE_LEVEL;
+    if (WRONG == 6)
+        KeRaiseIrql(DISPATCH_LEVEL, &irql);
+    PVOID (*allocate)(ULONGLONG, SIZE_T, ULONG) = MmGetSystemRoutineAddress(&pool); /* told 6: IrqlTooHigh */
+    if (WRONG == 6)
+        KeLowerIrql(irql);
     WDM_CHECK(allocate && !MmGetSystemRoutineAddress(&none));
     PVOID memory = allocate ? allocate(POOL_FLAG_NON_PAGED, 8, 'eman') : NULL;
     if (memory)

@@ -160,10 +160,14 @@ static VOID Attach(VOID)
 /* A timer whose tolerance is for saving power goes off as another one does. */
 static VOID Coalesce(VOID)
 {
-    KTIMER plain;
-    KeInitializeTimer(&plain);
-    KeSetCoalescableTimer(&plain, Milliseconds(1), 0, 50, NULL);
-    KeWaitForSingleObject(&plain, Executive, KernelMode, FALSE, NULL);
+    PKTIMER plain = ExAllocatePool2(POOL_FLAG_NON_PAGED, sizeof *plain, 'emiT');
+    if (!plain)
+        return;
+    KeInitializeTimer(plain);
+    KeSetCoalescableTimer(plain, Milliseconds(WRONG == 11 ? 60000 : 1), 0, 50, NULL);
+    if (WRONG != 11)
+        KeWaitForSingleObject(plain, Executive, KernelMode, FALSE, NULL);
+    ExFreePoolWithTag(plain, 'emiT'); /* told 11: TimerInFreedMemory */
 }
 
 static VOID UseList(VOID)
