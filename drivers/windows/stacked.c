@@ -1,7 +1,7 @@
 /* stacked.c: a file is of the lowest device of the stack that was opened, and so is the reference. That device is there until
    the file is closed, though its driver deletes it before. A device that is still initializing gets none above it; one that is
    attached takes over how buffers are aligned. WRONG=1 counts on the attach, WRONG=2 takes the file for one of the device that
-   was named, WRONG=3 deletes the device once more. */
+   was named, WRONG=3 deletes the device once more, WRONG=4 counts on its own alignment. */
 #include <wdm.h>
 #include "wdm_test.h"
 
@@ -43,7 +43,8 @@ static NTSTATUS Entry(PDRIVER_OBJECT DriverObject, PUNICODE_STRING RegistryPath)
     WDM_CHECK((IoAttachDeviceToDeviceStack(upper, lower) != NULL) == (WRONG == 1)); /* told 1: Check */
     lower->Flags &= ~(ULONG)DO_DEVICE_INITIALIZING;
     WDM_CHECK(IoAttachDeviceToDeviceStack(upper, lower) == lower);
-    WDM_CHECK(upper->AlignmentRequirement == FILE_512_BYTE_ALIGNMENT && upper->SectorSize == 512);
+    WDM_CHECK(upper->AlignmentRequirement == (WRONG == 4 ? 0 : FILE_512_BYTE_ALIGNMENT)); /* told 4: Check */
+    WDM_CHECK(upper->SectorSize == 512);
     return STATUS_SUCCESS;
 }
 
