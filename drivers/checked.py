@@ -476,7 +476,7 @@ def missing_rules(names):
         page = set(re.findall(r"^\| (\w+) \|", it.read(), re.M))
     with open(HERE + "/races/untested/pends.c", encoding="utf-8") as it: # see reaching.py
         tried = {it.split("_")[0] for it in names} | set(re.findall(r"/\* told: (\w+) \*/", it.read()))
-    tried |= {rule for _, _, rule, _ in as_windows.FILES}
+    tried |= as_windows.rules()
     tried |= {row[3] for row in reaching.BUGS}
     tried |= set(re.findall(r"FAULT (\w+)", " ".join(told for tells in planted.HOSTILE.values() for told in tells)))
     missing = [f"{it} has no case" for it in rules if it not in tried]

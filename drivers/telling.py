@@ -58,11 +58,9 @@ def tests_of(misuses, cases):
     for fault in planted.FAULTS:
         if not fault.by_order:
             found.setdefault(rule_of(fault.tells[0]), ("planted", fault))
-    for name, flag, rule, _ in as_windows.FILES:
-        found.setdefault(rule, ("windows", (name, flag)))
     for name, tells in planted.HOSTILE.items():
         found.setdefault(rule_of(tells[0]), ("hostile", name))
-    for path in newer.files():
+    for path in as_windows.files() + newer.files():
         for (number, run, rule), _ in newer.mistakes_in(path):
             if not run:
                 found.setdefault(rule, ("newer", (path, number)))
@@ -162,10 +160,10 @@ class Silenced:
             settings = checked.SETTINGS.get("_" + what.partition("_")[2], {})
             run = self.run(self.program("rules", [HERE + "/rules"]), f"{what} wrong", rule, settings)
             return checked.wrong_case(what, checked.lines_told().get(what, []), run)
-        if kind in ("windows", "newer"):
-            source, flag = (f"windows/{what[0]}.c", what[1]) if kind == "windows" else (what[0], f"WRONG={what[1]}")
+        if kind == "newer":
+            source, number = what
             folder = self.bench.folder(os.path.basename(source))
-            program = self.bench.build(folder, [f"{HERE}/{source}"], library=self.library, flags=[f"-D{flag}"])
+            program = self.bench.build(folder, [f"{HERE}/{source}"], library=self.library, flags=[f"-DWRONG={number}"])
             return NO_COMPLAINT if f"FAULT {rule}" in self.run(program, "", rule).said else "it isn't told"
         run = self.run(self.program(what, [f"{HERE}/hostile/{what}.c"]), "", rule)
         missing = [it for it in planted.HOSTILE[what] if it not in run.said]

@@ -33,7 +33,7 @@ PDEVICE_OBJECT IoGetRelatedDeviceObject(PFILE_OBJECT File);
 NTSTATUS WdmIoAttachDeviceByName(PDEVICE_OBJECT Device, PUNICODE_STRING Name, PDEVICE_OBJECT *Lower, WDM_SITE at);
 #define IoIsWdmVersionAvailable(major, minor) ((BOOLEAN)((major) < 6 || ((major) == 6 && (minor) <= 0x10)))
 #define WDM_MAJORVERSION 0x06
-#define WDM_MINORVERSION 0x10
+#define WDM_MINORVERSION 0x00
 NTSTATUS WdmIoAllocateDriverObjectExtension(PDRIVER_OBJECT Driver, PVOID Id, ULONG Bytes, PVOID *Extension);
 #define IoAllocateDriverObjectExtension(driver, id, bytes, extension) \
     WdmIoAllocateDriverObjectExtension((driver), (PVOID)(id), (bytes), (PVOID *)(extension))

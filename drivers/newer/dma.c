@@ -59,9 +59,8 @@ static VOID WaitFor(PMDL Four, PMDL Two)
     if (!waits)
         return;
     WDM_CHECK(n_lists == 2 && lists[1]->NumberOfElements == 2 && lists[1]->Elements[0].Length == PAGE_SIZE - 100);
-#if WRONG != 2
-    adapter->DmaOperations->PutScatterGatherList(adapter, lists[1], TRUE);
-#endif
+    if (WRONG != 2)
+        adapter->DmaOperations->PutScatterGatherList(adapter, lists[1], TRUE);
 }
 
 static VOID Wait(VOID)
@@ -87,11 +86,8 @@ static VOID ChainOf(PDEVICE_OBJECT Pdo, PMDL First)
     const PHYSICAL_ADDRESS address = lists[0]->Elements[0].Address;
     adapter->DmaOperations->PutScatterGatherList(adapter, lists[0], FALSE); /* told 3: DmaAfterEnd */
     WDM_CHECK(!memcmp(buffer + 10, "abcdef", 7) && !memcmp(buffer + 50, "ghij", 5));
-#if WRONG == 3
-    WdmDmaWrite(Pdo, address, "late", 4);
-#else
-    UNREFERENCED_PARAMETER(address);
-#endif
+    if (WRONG == 3)
+        WdmDmaWrite(Pdo, address, "late", 4);
 }
 
 static VOID Chain(PDEVICE_OBJECT Pdo)
@@ -153,23 +149,20 @@ static VOID UseChannel(PDEVICE_OBJECT Pdo, PMDL Mdl)
     WDM_CHECK(length == PAGE_SIZE + 8);
     at.QuadPart += PAGE_SIZE;
     WDM_CHECK(WdmDmaRead(Pdo, at, got, 4) && !memcmp(got, "tail", 4));
-#if WRONG == 4
-    operations->FlushAdapterBuffers(slave, Mdl, base, buffer, length + 1, TRUE); /* told 4: DmaBeyond */
-#else
-    operations->FlushAdapterBuffers(slave, Mdl, base, buffer, length, TRUE);
-#endif
+    if (WRONG == 4)
+        operations->FlushAdapterBuffers(slave, Mdl, base, buffer, length + 1, TRUE); /* told 4: DmaBeyond */
+    else
+        operations->FlushAdapterBuffers(slave, Mdl, base, buffer, length, TRUE);
     operations->FreeAdapterChannel(slave);
     if (!waits)
         return;
     WDM_CHECK(channels == 2);
     length = 1;
-#if WRONG == 5
-    operations->MapTransfer(slave, Mdl, base, buffer, &length, TRUE);
-#endif
+    if (WRONG == 5)
+        operations->MapTransfer(slave, Mdl, base, buffer, &length, TRUE);
     operations->FreeAdapterChannel(slave); /* told 5: DmaNotFlushed */
-#if WRONG == 6
-    operations->FreeAdapterChannel(slave); /* told 6: DmaFreedTwice */
-#endif
+    if (WRONG == 6)
+        operations->FreeAdapterChannel(slave); /* told 6: DmaFreedTwice */
 }
 
 static VOID Channel(PDEVICE_OBJECT Pdo)
@@ -198,9 +191,8 @@ static VOID Common(PDEVICE_OBJECT Pdo)
     number = 78;
     WDM_CHECK(WdmDmaWrite(Pdo, logical, &number, 4) && shared[1] == 78);
     logical.QuadPart -= 4;
-#if WRONG == 7
-    shared[4] = 1;
-#endif
+    if (WRONG == 7)
+        shared[4] = 1;
     adapter->DmaOperations->FreeCommonBuffer(adapter, WRONG == 8 ? 8 : 16, logical, shared, FALSE); /* told 7: DmaBeyond */ /* told 8: DmaFreedTwice */
 }
 

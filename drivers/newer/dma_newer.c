@@ -53,18 +53,16 @@ static VOID AtOnce(PMDL Mdl)
     memset(buffer, 0, sizeof buffer);
     if (WRONG != 1)
         operations->InitializeDmaTransferContext(adapter, contexts[0]);
-#if WRONG == 2
-    older->DmaOperations->InitializeDmaTransferContext(older, contexts[1]); /* told 2: DmaVersion */
-#endif
+    if (WRONG == 2)
+        older->DmaOperations->InitializeDmaTransferContext(older, contexts[1]); /* told 2: DmaVersion */
     NTSTATUS status = operations->GetScatterGatherListEx(adapter, device, contexts[0], Mdl, PAGE_SIZE - 2, 4, /* told 1: DmaContext */
                                                          DMA_SYNCHRONOUS_CALLBACK, NULL, NULL, FALSE, NULL, NULL, &list);
     if (!NT_SUCCESS(status))
         return;
     WDM_CHECK(list->NumberOfElements == 2 && list->Elements[0].Length == 2 && list->Elements[1].Length == 2);
     WDM_CHECK(WdmDmaWrite(device, list->Elements[0].Address, "ab", 2) && WdmDmaWrite(device, list->Elements[1].Address, "cd", 2));
-#if WRONG == 3
-    operations->InitializeDmaTransferContext(adapter, contexts[0]); /* told 3: DmaContext */
-#endif
+    if (WRONG == 3)
+        operations->InitializeDmaTransferContext(adapter, contexts[0]); /* told 3: DmaContext */
     operations->PutScatterGatherList(adapter, list, FALSE);
     WDM_CHECK(!memcmp(buffer + PAGE_SIZE - 2, "abcd", 5));
 }
@@ -113,9 +111,8 @@ static VOID Map(PMDL Mdl)
     if (!NT_SUCCESS(operations->AllocateAdapterChannelEx(adapter, device, contexts[0], 2, DMA_SYNCHRONOUS_CALLBACK, NULL, NULL, &base)))
         return;
     operations->FreeAdapterObject(adapter, DeallocateObjectKeepRegisters);
-#if WRONG == 5
-    operations->FreeAdapterObject(adapter, DeallocateObjectKeepRegisters); /* told 5: DmaFreedTwice */
-#endif
+    if (WRONG == 5)
+        operations->FreeAdapterObject(adapter, DeallocateObjectKeepRegisters); /* told 5: DmaFreedTwice */
     WDM_CHECK(operations->MapTransferEx(adapter, Mdl, base, 100, 0, &length, TRUE, (PSCATTER_GATHER_LIST)&list, sizeof list, NULL,
                                         NULL) == STATUS_SUCCESS && length == PAGE_SIZE && list.N == 2);
     WDM_CHECK(WdmDmaRead(device, list.At[1].Address, got, 4) && !memcmp(got, "tail", 4));

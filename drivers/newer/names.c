@@ -39,21 +39,19 @@ static VOID Work(PEXTENSION ext)
     Await(ext);
     ExInitializeWorkItem(&ext->Plain, Plainly, ext);
     ExQueueWorkItem(&ext->Plain, DelayedWorkQueue);
-#if WRONG == 1
-    ExQueueWorkItem(&ext->Plain, DelayedWorkQueue); /* told 1, by --every-order: QueuedTwice */
-#endif
+    if (WRONG == 1)
+        ExQueueWorkItem(&ext->Plain, DelayedWorkQueue); /* told 1, by --every-order: QueuedTwice */
     Await(ext);
     ExQueueWorkItem(&ext->Plain, DelayedWorkQueue); /* its routine has it no more */
     Await(ext);
     WDM_CHECK(ext->Ran == 3);
-#if WRONG == 5
-    IoQueueWorkItemEx(ext->Item, WithItem, DelayedWorkQueue, ext);
-#endif
-#if WRONG != 2
-    if (WRONG != 5)
-        IoUninitializeWorkItem(ext->Item);
-    ExFreePoolWithTag(ext->Item, 'krow'); /* told 5, by --every-order: UsedInFreedMemory */
-#endif
+    if (WRONG == 5)
+        IoQueueWorkItemEx(ext->Item, WithItem, DelayedWorkQueue, ext);
+    if (WRONG != 2) {
+        if (WRONG != 5)
+            IoUninitializeWorkItem(ext->Item);
+        ExFreePoolWithTag(ext->Item, 'krow'); /* told 5, by --every-order: UsedInFreedMemory */
+    }
 }
 
 static NTSTATUS Control(PDEVICE_OBJECT DeviceObject, PIRP Irp)
@@ -85,9 +83,8 @@ static NTSTATUS Cleanup(PDEVICE_OBJECT DeviceObject, PIRP Irp)
     PFILE_OBJECT file = IoGetCurrentIrpStackLocation(Irp)->FileObject;
     UNREFERENCED_PARAMETER(DeviceObject);
     IoRemoveShareAccess(file, &shared); /* told 3: ShareAccess */
-#if WRONG == 3
-    IoRemoveShareAccess(file, &shared);
-#endif
+    if (WRONG == 3)
+        IoRemoveShareAccess(file, &shared);
     return Complete(Irp, STATUS_SUCCESS, 0);
 }
 
@@ -147,9 +144,8 @@ static VOID Bits(VOID)
     WDM_CHECK(RtlAreBitsSet(&map, 0, 70));
     RtlClearAllBits(&map);
     WDM_CHECK(RtlFindMostSignificantBit(0x8001) == 15 && RtlFindLeastSignificantBit(0x18) == 3 && RtlFindLeastSignificantBit(0) == -1);
-#if WRONG == 4
-    RtlSetBits(&map, 60, 11); /* told 4: BitRange */
-#endif
+    if (WRONG == 4)
+        RtlSetBits(&map, 60, 11); /* told 4: BitRange */
 }
 
 static VOID Sums(VOID)
@@ -159,7 +155,8 @@ static VOID Sums(VOID)
     LONG signed_one;
     SIZE_T size;
     WDM_CHECK(RtlULongAdd(1, 2, &sum) == STATUS_SUCCESS && sum == 3);
-    WDM_CHECK(RtlULongAdd(0xffffffff, 1, &sum) == STATUS_INTEGER_OVERFLOW && sum == 0xffffffff);
+    WDM_CHECK(RtlULongAdd(0xffffffff, 1, &sum) == STATUS_INTEGER_OVERFLOW);
+    WDM_CHECK(sum == (WRONG == 7 ? 0 : 0xffffffff)); /* told 7: Check */
     WDM_CHECK(RtlULongSub(1, 2, &sum) == STATUS_INTEGER_OVERFLOW && RtlULongMult(0x10000, 0x10000, &sum) == STATUS_INTEGER_OVERFLOW);
     WDM_CHECK(RtlLongAdd(0x7fffffff, 1, &signed_one) == STATUS_INTEGER_OVERFLOW && RtlLongSub(-1, 5, &signed_one) == 0 && signed_one == -6);
     WDM_CHECK(RtlSizeTMult(1ull << 40, 1ull << 23, &size) == STATUS_SUCCESS && size == 1ull << 63);
@@ -172,7 +169,12 @@ static VOID Sums(VOID)
 static VOID Names(VOID)
 {
     UNICODE_STRING pool = RTL_CONSTANT_STRING(L"ExAllocatePool2"), none = RTL_CONSTANT_STRING(L"IoMakesNoSuchThing");
-    PVOID (*allocate)(ULONGLONG, SIZE_T, ULONG) = MmGetSystemRoutineAddress(&pool);
+    KIRQL irql = PASSIVE_LEVEL;
+    if (WRONG == 6)
+        KeRaiseIrql(DISPATCH_LEVEL, &irql);
+    PVOID (*allocate)(ULONGLONG, SIZE_T, ULONG) = MmGetSystemRoutineAddress(&pool); /* told 6: IrqlTooHigh */
+    if (WRONG == 6)
+        KeLowerIrql(irql);
     WDM_CHECK(allocate && !MmGetSystemRoutineAddress(&none));
     PVOID memory = allocate ? allocate(POOL_FLAG_NON_PAGED, 8, 'eman') : NULL;
     if (memory)

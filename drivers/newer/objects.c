@@ -62,18 +62,16 @@ static VOID GiveBack(VOID)
 {
     if (registration && WRONG != 1)
         ExUnregisterCallback(registration);
-#if WRONG == 9
-    ExUnregisterCallback(registration); /* told 9: Callback */
-#endif
+    if (WRONG == 9)
+        ExUnregisterCallback(registration); /* told 9: Callback */
     if (settings && WRONG != 2)
         PoUnregisterPowerSettingCallback(settings);
     if (handle && WRONG != 3)
         ZwClose(handle);
     if (pages && WRONG != 4)
         MmFreePagesFromMdl(pages);
-#if WRONG == 6
-    MmFreePagesFromMdl(pages); /* told 6: NotAllocated */
-#endif
+    if (WRONG == 6)
+        MmFreePagesFromMdl(pages); /* told 6: NotAllocated */
     if (pages)
         ExFreePool(pages); /* told 4: UsedInFreedMemory */
     if (timer && WRONG != 5)
@@ -150,22 +148,26 @@ static VOID Attach(VOID)
     KAPC_STATE outer, inner;
     KeStackAttachProcess(PsGetCurrentProcess(), &outer);
     KeStackAttachProcess(PsGetCurrentProcess(), &inner);
-#if WRONG == 8
-    KeUnstackDetachProcess(&outer); /* told 8: Attached */
-    KeUnstackDetachProcess(&inner);
-#else
-    KeUnstackDetachProcess(&inner);
-    KeUnstackDetachProcess(&outer);
-#endif
+    if (WRONG == 8) {
+        KeUnstackDetachProcess(&outer); /* told 8: Attached */
+        KeUnstackDetachProcess(&inner);
+    } else {
+        KeUnstackDetachProcess(&inner);
+        KeUnstackDetachProcess(&outer);
+    }
 }
 
 /* A timer whose tolerance is for saving power goes off as another one does. */
 static VOID Coalesce(VOID)
 {
-    KTIMER plain;
-    KeInitializeTimer(&plain);
-    KeSetCoalescableTimer(&plain, Milliseconds(1), 0, 50, NULL);
-    KeWaitForSingleObject(&plain, Executive, KernelMode, FALSE, NULL);
+    PKTIMER plain = ExAllocatePool2(POOL_FLAG_NON_PAGED, sizeof *plain, 'emiT');
+    if (!plain)
+        return;
+    KeInitializeTimer(plain);
+    KeSetCoalescableTimer(plain, Milliseconds(WRONG == 11 ? 60000 : 1), 0, 50, NULL);
+    if (WRONG != 11)
+        KeWaitForSingleObject(plain, Executive, KernelMode, FALSE, NULL);
+    ExFreePoolWithTag(plain, 'emiT'); /* told 11: TimerInFreedMemory */
 }
 
 static VOID UseList(VOID)
@@ -177,9 +179,8 @@ static VOID UseList(VOID)
     if (block)
         ExFreeToLookasideListEx(&list, block);
     ExDeleteLookasideListEx(&list);
-#if WRONG == 10
-    block = ExAllocateFromLookasideListEx(&list); /* told 10: Lookaside */
-#endif
+    if (WRONG == 10)
+        block = ExAllocateFromLookasideListEx(&list); /* told 10: Lookaside */
 }
 
 int main(void)

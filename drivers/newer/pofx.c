@@ -35,9 +35,8 @@ static VOID Drain(PEXTENSION ext)
         WDM_CHECK(ext->State == 0);
         Complete(irp, STATUS_SUCCESS, 4);
         PoFxIdleComponent(ext->Handle, 0, 0); /* told 3: PoFxNotCompleted */
-#if WRONG == 1
-        PoFxIdleComponent(ext->Handle, 0, 0); /* told 1: PoFxNotActive */
-#endif
+        if (WRONG == 1)
+            PoFxIdleComponent(ext->Handle, 0, 0); /* told 1: PoFxNotActive */
         IoReleaseRemoveLock(&ext->RemoveLock, irp);
     }
 }
@@ -72,9 +71,8 @@ static VOID ChangeState(PVOID Context, ULONG Component, ULONG State)
     ext->State = State;
     if (WRONG != 4)
         PoFxCompleteIdleState(ext->Handle, Component);
-#if WRONG == 5
-    PoFxCompleteIdleState(ext->Handle, Component); /* told 5: PoFxNotAsked */
-#endif
+    if (WRONG == 5)
+        PoFxCompleteIdleState(ext->Handle, Component); /* told 5: PoFxNotAsked */
 }
 
 static VOID IsOn(PDEVICE_OBJECT DeviceObject, UCHAR Minor, POWER_STATE State, PVOID Context, PIO_STATUS_BLOCK IoStatus)
@@ -138,14 +136,12 @@ static NTSTATUS Control(PDEVICE_OBJECT DeviceObject, PIRP Irp)
     NTSTATUS status = IoAcquireRemoveLock(&ext->RemoveLock, Irp);
     if (!NT_SUCCESS(status))
         return Complete(Irp, status, 0);
-#if WRONG == 9
-    KIRQL irql;
-    KeRaiseIrql(DISPATCH_LEVEL, &irql);
-#endif
+    KIRQL irql = PASSIVE_LEVEL;
+    if (WRONG == 9)
+        KeRaiseIrql(DISPATCH_LEVEL, &irql);
     PoFxActivateComponent(ext->Handle, 0, PO_FX_FLAG_BLOCKING); /* told 9: IrqlTooHigh */
-#if WRONG == 9
-    KeLowerIrql(irql);
-#endif
+    if (WRONG == 9)
+        KeLowerIrql(irql);
     WDM_CHECK(ext->IsActive && ext->State == 0);
     PoFxIdleComponent(ext->Handle, 0, PO_FX_FLAG_BLOCKING);
     status = Complete(Irp, STATUS_SUCCESS, 0);
@@ -177,9 +173,8 @@ static NTSTATUS Remove(PEXTENSION ext, PIRP Irp)
     IoReleaseRemoveLockAndWait(&ext->RemoveLock, Irp);
     if (ext->Handle && WRONG != 2)
         PoFxUnregisterDevice(ext->Handle);
-#if WRONG == 10
-    PoFxActivateComponent(ext->Handle, 0, 0); /* told 10: UsedInFreedMemory */
-#endif
+    if (WRONG == 10)
+        PoFxActivateComponent(ext->Handle, 0, 0); /* told 10: UsedInFreedMemory */
     Irp->IoStatus.Status = STATUS_SUCCESS;
     NTSTATUS status = PassDown(ext->Lower, Irp);
     IoDetachDevice(ext->Lower);

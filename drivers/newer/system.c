@@ -58,9 +58,8 @@ static VOID AskHandles(VOID)
     ObDereferenceObject(first);
     ObDereferenceObject(second);
     ZwClose(two);
-#if WRONG == 1
-    ZwClose(one); /* told 1: NotOpen */
-#endif
+    if (WRONG == 1)
+        ZwClose(one); /* told 1: NotOpen */
 }
 
 static NTSTATUS Open(PHANDLE Handle, ULONG Flags, BOOLEAN Makes)

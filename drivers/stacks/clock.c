@@ -59,10 +59,10 @@ static VOID TimedOut(PEX_TIMER Timer, PVOID Context)
     PEXTENSION ext = Context;
     UNREFERENCED_PARAMETER(Timer);
     CompleteWaiting(ext, STATUS_IO_TIMEOUT, TRUE);
-#if WRONG == 1
-    ExDeleteTimer(ext->Timer, TRUE, TRUE, NULL); /* told 1: IrqlTooHigh */
-    ext->Timer = NULL;
-#endif
+    if (WRONG == 1) {
+        ExDeleteTimer(ext->Timer, TRUE, TRUE, NULL); /* told 1: IrqlTooHigh */
+        ext->Timer = NULL;
+    }
 }
 
 static BOOLEAN Serve(PKINTERRUPT Interrupt, PVOID Context)
@@ -90,11 +90,10 @@ static NTSTATUS Read(PDEVICE_OBJECT DeviceObject, PIRP Irp)
     IoMarkIrpPending(Irp);
     irql = ExAcquireSpinLockShared(&ext->Settings);
     const LONGLONG limit = ext->Limit;
-#if WRONG == 2
-    ExReleaseSpinLockExclusive(&ext->Settings, irql); /* told 2: WrongMode */
-#else
-    ExReleaseSpinLockShared(&ext->Settings, irql);
-#endif
+    if (WRONG == 2)
+        ExReleaseSpinLockExclusive(&ext->Settings, irql); /* told 2: WrongMode */
+    else
+        ExReleaseSpinLockShared(&ext->Settings, irql);
     KeAcquireSpinLock(&ext->Lock, &irql);
     InsertTailList(&ext->Waiting, &record->Entry);
     ExSetTimer(ext->Timer, -10000 * limit, 0, NULL);
@@ -105,17 +104,15 @@ static NTSTATUS Read(PDEVICE_OBJECT DeviceObject, PIRP Irp)
 static NTSTATUS Control(PDEVICE_OBJECT DeviceObject, PIRP Irp)
 {
     PEXTENSION ext = DeviceObject->DeviceExtension;
-#if WRONG != 3
-    KeEnterCriticalRegion();
-#endif
+    if (WRONG != 3)
+        KeEnterCriticalRegion();
     ExAcquirePushLockExclusive(&ext->Control); /* told 3: CriticalRegion */
     KIRQL irql = ExAcquireSpinLockExclusive(&ext->Settings);
     ext->Limit = *(PULONG)Irp->AssociatedIrp.SystemBuffer;
     ExReleaseSpinLockExclusive(&ext->Settings, irql);
     ExReleasePushLockExclusive(&ext->Control);
-#if WRONG != 3
-    KeLeaveCriticalRegion();
-#endif
+    if (WRONG != 3)
+        KeLeaveCriticalRegion();
     return Complete(Irp, STATUS_SUCCESS, 0);
 }
 
@@ -134,9 +131,8 @@ static NTSTATUS Connect(PEXTENSION ext)
 static VOID Disconnect(PEXTENSION ext)
 {
     IO_DISCONNECT_INTERRUPT_PARAMETERS parameters = { .Version = ext->Version };
-#if WRONG == 5
-    parameters.Version = CONNECT_MESSAGE_BASED;
-#endif
+    if (WRONG == 5)
+        parameters.Version = CONNECT_MESSAGE_BASED;
     parameters.ConnectionContext.InterruptObject = ext->Interrupt;
     if (ext->Interrupt && WRONG != 4)
         IoDisconnectInterruptEx(&parameters); /* told 5: DisconnectVersion */
@@ -147,16 +143,15 @@ static VOID Remove(PEXTENSION ext)
 {
     Disconnect(ext);
     KeFlushQueuedDpcs();
-#if WRONG == 7
-    ExDeleteTimer(ext->Timer, TRUE, FALSE, NULL);
-    ExSetTimer(ext->Timer, -10000, 0, NULL); /* told 7: UsedInFreedMemory */
-#else
-    ExDeleteTimer(ext->Timer, TRUE, WRONG != 8, NULL);
-#endif
+    if (WRONG == 7) {
+        ExDeleteTimer(ext->Timer, TRUE, FALSE, NULL);
+        ExSetTimer(ext->Timer, -10000, 0, NULL); /* told 7: UsedInFreedMemory */
+    } else {
+        ExDeleteTimer(ext->Timer, TRUE, WRONG != 8, NULL);
+    }
     CompleteWaiting(ext, STATUS_DEVICE_NOT_CONNECTED, TRUE);
-#if WRONG != 6
-    ExDeleteLookasideListEx(&ext->Records);
-#endif
+    if (WRONG != 6)
+        ExDeleteLookasideListEx(&ext->Records);
     IoDetachDevice(ext->Lower);
     IoDeleteDevice(ext->Self); /* told 6: UsedInFreedMemory */
 }

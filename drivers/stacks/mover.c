@@ -40,9 +40,8 @@ static VOID ListReady(PDEVICE_OBJECT DeviceObject, PIRP Irp, PSCATTER_GATHER_LIS
         ext->Descriptor->At[i].Address = List->Elements[i].Address.QuadPart;
         ext->Descriptor->At[i].Length = List->Elements[i].Length + (WRONG == 1 && !i ? 8 : 0);
     }
-#if WRONG == 2
-    ext->Descriptor->At[0].Address = MmGetPhysicalAddress(MmGetMdlVirtualAddress(ext->Irp->MdlAddress)).QuadPart;
-#endif
+    if (WRONG == 2)
+        ext->Descriptor->At[0].Address = MmGetPhysicalAddress(MmGetMdlVirtualAddress(ext->Irp->MdlAddress)).QuadPart;
     WRITE_REGISTER_ULONG(&doorbell, 1);
 }
 
@@ -58,19 +57,16 @@ static NTSTATUS Transfer(PDEVICE_OBJECT DeviceObject, PIRP Irp)
     ext->ToDevice = stack->MajorFunction == IRP_MJ_WRITE;
     ext->Irp = Irp;
     IoMarkIrpPending(Irp);
-#if WRONG == 3
-    irql = KeGetCurrentIrql();
-#else
-    KeRaiseIrql(DISPATCH_LEVEL, &irql);
-#endif
-#if WRONG == 4
-    length += 8;
-#endif
+    if (WRONG == 3)
+        irql = KeGetCurrentIrql();
+    else
+        KeRaiseIrql(DISPATCH_LEVEL, &irql);
+    if (WRONG == 4)
+        length += 8;
     NTSTATUS status = ext->Adapter->DmaOperations->GetScatterGatherList( /* told 1: DmaBeyond */ /* told 3: DmaIrql */ /* told 4: DmaBeyond */
         ext->Adapter, DeviceObject, mdl, MmGetMdlVirtualAddress(mdl), length, ListReady, ext, ext->ToDevice);
-#if WRONG != 3
-    KeLowerIrql(irql);
-#endif
+    if (WRONG != 3)
+        KeLowerIrql(irql);
     if (!NT_SUCCESS(status)) {
         ext->Irp = NULL;
         Complete(Irp, status, 0);
@@ -90,9 +86,8 @@ static BOOLEAN Serve(PKINTERRUPT Interrupt, PVOID Context)
 static VOID EndBlock(PEXTENSION ext)
 {
     PDMA_OPERATIONS operations = ext->Adapter->DmaOperations;
-#if WRONG != 9
-    operations->FlushAdapterBuffers(ext->Adapter, ext->BlockMdl, ext->Base, ext->Block, sizeof ext->Block, FALSE);
-#endif
+    if (WRONG != 9)
+        operations->FlushAdapterBuffers(ext->Adapter, ext->BlockMdl, ext->Base, ext->Block, sizeof ext->Block, FALSE);
     operations->FreeMapRegisters(ext->Adapter, ext->Base, 2); /* told 9: DmaNotFlushed */
     ext->Base = NULL;
     Complete(ext->Irp, STATUS_SUCCESS, 0);
@@ -116,9 +111,8 @@ static VOID Served(PKDPC Dpc, PVOID Context, PVOID A, PVOID B)
     ext->Irp = NULL;
     if (WRONG != 5 && WRONG != 6)
         operations->PutScatterGatherList(ext->Adapter, ext->List, WRONG == 7 ? !ext->ToDevice : ext->ToDevice); /* told 7: DmaDirection */
-#if WRONG == 8
-    operations->PutScatterGatherList(ext->Adapter, ext->List, ext->ToDevice); /* told 8: DmaFreedTwice */
-#endif
+    if (WRONG == 8)
+        operations->PutScatterGatherList(ext->Adapter, ext->List, ext->ToDevice); /* told 8: DmaFreedTwice */
     IoCompleteRequest(irp, IO_NO_INCREMENT); /* told 5: DmaKept */ /* told 6: DmaKept */
     if (WRONG == 5)
         operations->PutScatterGatherList(ext->Adapter, ext->List, ext->ToDevice);

@@ -1,4 +1,4 @@
-/* built_fails.c: a filter's control fails at once: the I/O manager sets no event then, and writes no IoStatusBlock. WRONG
+/* built_fails.c: a filter's control fails at once: the I/O manager sets no event then, and writes no IoStatusBlock. WRONG=1
    waits whatever IoCallDriver returned. */
 #include "filter.h"
 
@@ -13,13 +13,11 @@ static NTSTATUS Read(PDEVICE_OBJECT DeviceObject, PIRP Irp)
     if (!own)
         return Complete(Irp, STATUS_INSUFFICIENT_RESOURCES, 0);
     NTSTATUS status = IoCallDriver(LowerOf(DeviceObject), own);
-#ifndef WRONG
-    if (status != STATUS_PENDING) {
+    if (status != STATUS_PENDING && WRONG != 1) {
         WDM_CHECK(iosb.Status == STATUS_TIMEOUT && !KeReadStateEvent(&done));
         return Complete(Irp, status, 0);
     }
-#endif
-    KeWaitForSingleObject(&done, Executive, KernelMode, FALSE, NULL);
+    KeWaitForSingleObject(&done, Executive, KernelMode, FALSE, NULL); /* told 1: Hang */
     return Complete(Irp, iosb.Status, 0);
 }
 

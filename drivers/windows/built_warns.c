@@ -1,7 +1,11 @@
 /* built_warns.c: a control that ends with a warning gives its caller what is in the buffer; one with an error gives nothing.
-   WRONG takes the buffer of one that failed for an answer. */
+   WRONG=1 takes the buffer of one that failed for an answer. */
 #include <wdm.h>
 #include "wdm_test.h"
+
+#ifndef WRONG
+#define WRONG 0
+#endif
 
 enum { WARNS = CTL_CODE(FILE_DEVICE_UNKNOWN, 0x801, METHOD_BUFFERED, FILE_ANY_ACCESS),
        FAILS = CTL_CODE(FILE_DEVICE_UNKNOWN, 0x802, METHOD_BUFFERED, FILE_ANY_ACCESS) };
@@ -42,10 +46,6 @@ int main(void)
     WDM_CHECK(Ask(device, FAILS, failed, &iosb) == STATUS_UNSUCCESSFUL && iosb.Status == STATUS_TIMEOUT);
     WDM_CHECK(Ask(device, WARNS, warned, &iosb) == STATUS_BUFFER_OVERFLOW && iosb.Status == STATUS_BUFFER_OVERFLOW);
     WDM_CHECK(!memcmp(warned, "ghidef", 6));
-#ifdef WRONG
-    WDM_CHECK(!memcmp(failed, "ghidef", 6));
-#else
-    WDM_CHECK(!memcmp(failed, "abcdef", 6));
-#endif
+    WDM_CHECK(!memcmp(failed, WRONG == 1 ? "ghidef" : "abcdef", 6)); /* told 1: Check */
     return WdmFinish();
 }

@@ -1,6 +1,6 @@
 /* completed_again.c: a read with a limit of time, as the WDK's "Different ways of handling IRPs" has it: the completion
    routine keeps a packet whose cancel has begun, and the filter completes it once more. So it is over a device that has a read
-   until it is cancelled; over one that answers late the limit may be first, or the answer. WRONG completes it a third time. */
+   until it is cancelled; over one that answers late the limit may be first, or the answer. WRONG=1 completes it a third time. */
 #include "filter.h"
 
 typedef enum { CANCELABLE, CANCEL_STARTED, CANCEL_COMPLETE, COMPLETED } STATE;
@@ -20,9 +20,8 @@ static void CancelAndWait(PIRP Own, WAITING *Waiting)
         IoCancelIrp(Own);
         if (InterlockedExchange(&Waiting->State, CANCEL_COMPLETE) == COMPLETED) {
             IoCompleteRequest(Own, IO_NO_INCREMENT);
-#ifdef WRONG
-            IoCompleteRequest(Own, IO_NO_INCREMENT);
-#endif
+            if (WRONG == 1)
+                IoCompleteRequest(Own, IO_NO_INCREMENT); /* told 1, by --schedule usual: CompletedTwice */
         }
     }
     KeWaitForSingleObject(&Waiting->Event, Executive, KernelMode, FALSE, NULL);

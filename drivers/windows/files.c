@@ -1,16 +1,17 @@
 /* files.c: reads are held on each of two handles. CLEANUP comes when a handle is closed, with reads pending; CLOSE once the
-   last one is back. An exclusive device is opened once. WRONG=1 ends nothing in CLEANUP, WRONG=2 ends what is of the other
-   handle too. */
+   last one is back. An exclusive device is opened once. A packet says whose it is: a program's pointer is probed. WRONG=1 ends
+   nothing in CLEANUP, WRONG=2 ends what is of the other handle too, WRONG=3 probes what the kernel hands over, WRONG=4 counts on
+   a second handle, WRONG=5 keeps its reference to the file. */
 #include <wdm.h>
 #include "wdm_test.h"
 
 #ifndef WRONG
 #define WRONG 0
 #endif
-enum { HELD = 4 };
+enum { HELD = 4, LOOK = CTL_CODE(FILE_DEVICE_UNKNOWN, 1, METHOD_NEITHER, FILE_ANY_ACCESS) };
 static PIRP held[HELD];
 static KSPIN_LOCK lock;
-static LONG cleanups, closes, ended;
+static LONG cleanups, closes, ended, looked;
 
 static VOID CancelRead(PDEVICE_OBJECT DeviceObject, PIRP Irp)
 {
@@ -39,7 +40,7 @@ static NTSTATUS Read(PDEVICE_OBJECT DeviceObject, PIRP Irp)
         i++;
     IoMarkIrpPending(Irp);
     held[i] = Irp;
-    IoSetCancelRoutine(Irp, CancelRead);
+    IoSetCancelRoutine(Irp, CancelRead); /* told 1: KeptOverCleanup */
     if (Irp->Cancel && IoSetCancelRoutine(Irp, NULL)) {
         held[i] = NULL;
         KeReleaseSpinLock(&lock, irql);
@@ -74,13 +75,23 @@ static NTSTATUS Complete(PIRP Irp)
     return STATUS_SUCCESS;
 }
 
+static NTSTATUS Look(PDEVICE_OBJECT DeviceObject, PIRP Irp)
+{
+    volatile ULONG *in = IoGetCurrentIrpStackLocation(Irp)->Parameters.DeviceIoControl.Type3InputBuffer;
+    UNREFERENCED_PARAMETER(DeviceObject);
+    if (Irp->RequestorMode == (WRONG == 3 ? KernelMode : UserMode))
+        ProbeForRead((PVOID)in, sizeof *in, sizeof *in);
+    looked += (LONG)*in; /* told 3: Unprobed */
+    return Complete(Irp);
+}
+
 static VOID EndReads(PFILE_OBJECT File)
 {
     for (PIRP irp = TakeOut(File); irp; irp = TakeOut(File)) {
         irp->IoStatus.Status = STATUS_CANCELLED;
         irp->IoStatus.Information = 0;
         ended++;
-        IoCompleteRequest(irp, IO_NO_INCREMENT);
+        IoCompleteRequest(irp, IO_NO_INCREMENT); /* told 2: CleanupOfAnother */
     }
 }
 
@@ -96,10 +107,8 @@ static NTSTATUS Cleanup(PDEVICE_OBJECT DeviceObject, PIRP Irp)
     UNREFERENCED_PARAMETER(DeviceObject);
     cleanups++;
     WDM_CHECK(Irp->RequestorMode == KernelMode);
-    if (!WRONG)
-        EndReads(IoGetCurrentIrpStackLocation(Irp)->FileObject);
-    else if (WRONG == 2)
-        EndReads(NULL);
+    if (WRONG != 1)
+        EndReads(WRONG == 2 ? NULL : IoGetCurrentIrpStackLocation(Irp)->FileObject);
     return Complete(Irp);
 }
 
@@ -125,6 +134,7 @@ static NTSTATUS Entry(PDRIVER_OBJECT DriverObject, PUNICODE_STRING RegistryPath)
     RtlInitUnicodeString(&name, L"\\Device\\Exclusive");
     DriverObject->MajorFunction[IRP_MJ_CREATE] = Open;
     DriverObject->MajorFunction[IRP_MJ_READ] = Read;
+    DriverObject->MajorFunction[IRP_MJ_DEVICE_CONTROL] = Look;
     DriverObject->MajorFunction[IRP_MJ_CLEANUP] = Cleanup;
     DriverObject->MajorFunction[IRP_MJ_CLOSE] = Close;
     DriverObject->DriverUnload = Unload;
@@ -164,7 +174,7 @@ static VOID OpenByName(VOID)
     UNICODE_STRING name;
     OBJECT_ATTRIBUTES attributes;
     IO_STATUS_BLOCK iosb;
-    HANDLE handle, other;
+    HANDLE handle, other = NULL;
     PFILE_OBJECT file;
     const LONG before = closes;
     RtlInitUnicodeString(&name, L"\\Device\\Exclusive");
@@ -172,17 +182,21 @@ static VOID OpenByName(VOID)
     WDM_CHECK(ZwCreateFile(&handle, FILE_READ_DATA, &attributes, &iosb, NULL, 0, 0, FILE_OPEN, 0, NULL, 0) == STATUS_SUCCESS);
     WDM_CHECK(ZwCreateFile(&other, FILE_READ_DATA, &attributes, &iosb, NULL, 0, 0, FILE_OPEN, 0, NULL, 0) ==
               STATUS_ACCESS_DENIED);
+    if (WRONG == 4)
+        ZwClose(other); /* told 4: NotOpen */
     WDM_CHECK(ObReferenceObjectByHandle(handle, 0, *IoFileObjectType, KernelMode, (PVOID *)&file, NULL) == STATUS_SUCCESS);
     ZwClose(handle);
     WDM_CHECK(closes == before && file->DeviceObject->ReferenceCount == 1);
-    ObDereferenceObject(file);
-    WDM_CHECK(closes == before + 1);
+    if (WRONG != 5)
+        ObDereferenceObject(file);
+    WDM_CHECK(closes == before + 1); /* told 5: Check */
 }
 
 int main(void)
 {
     PDRIVER_OBJECT driver = WdmLoadDriver("files", Entry);
     UseTwoHandles(driver->DeviceObject->NextDevice);
+    WDM_CHECK(WdmControl(driver->DeviceObject->NextDevice, LOOK, sizeof(ULONG)) == STATUS_SUCCESS);
     OpenByName();
     WdmUnloadDriver(driver);
     return WdmFinish();

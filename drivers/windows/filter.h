@@ -1,10 +1,14 @@
-/* filter.h: the plain part of a filter, for the files of this folder: each has a Read and a main, and a mistake by -DWRONG. */
+/* filter.h: the plain part of a filter, for the files of this folder: each has a Read and a main, and mistakes by
+   -DWRONG=N, at the lines that say what is told. */
 #ifndef DRIVERS_WINDOWS_FILTER_H
 #define DRIVERS_WINDOWS_FILTER_H
 
 #include <wdm.h>
 #include "wdm_test.h"
 
+#ifndef WRONG
+#define WRONG 0
+#endif
 typedef struct { PDEVICE_OBJECT Lower; } FILTER;
 
 static DRIVER_DISPATCH Read;
@@ -50,6 +54,8 @@ static NTSTATUS AddFilter(PDRIVER_OBJECT DriverObject, PDEVICE_OBJECT Pdo)
     return STATUS_SUCCESS;
 }
 
+static VOID Unload(PDRIVER_OBJECT DriverObject) { UNREFERENCED_PARAMETER(DriverObject); }
+
 static NTSTATUS FilterEntry(PDRIVER_OBJECT DriverObject, PUNICODE_STRING RegistryPath)
 {
     UNREFERENCED_PARAMETER(RegistryPath);
@@ -58,6 +64,7 @@ static NTSTATUS FilterEntry(PDRIVER_OBJECT DriverObject, PUNICODE_STRING Registr
     DriverObject->MajorFunction[IRP_MJ_READ] = Read;
     DriverObject->MajorFunction[IRP_MJ_PNP] = Pnp;
     DriverObject->DriverExtension->AddDevice = AddFilter;
+    DriverObject->DriverUnload = Unload;
     return STATUS_SUCCESS;
 }
 

@@ -1,5 +1,5 @@
 /* master.c: a read in two associated packets: the I/O manager counts the master's IrpCount down, and completes it at exactly 0.
-   WRONG forgets to set IrpCount: in Windows the read is never completed. */
+   WRONG=1 forgets to set IrpCount: in Windows the read is never completed. */
 #include "filter.h"
 
 enum { PIECES = 2 };
@@ -15,7 +15,7 @@ static NTSTATUS Read(PDEVICE_OBJECT DeviceObject, PIRP Irp)
 {
     PIRP pieces[PIECES] = { NULL };
     for (int i = 0; i < PIECES; i++) {
-        pieces[i] = IoMakeAssociatedIrp(Irp, LowerOf(DeviceObject)->StackSize);
+        pieces[i] = IoMakeAssociatedIrp(Irp, LowerOf(DeviceObject)->StackSize); /* told 1: NoMaster */
         if (!pieces[i]) {
             FreePieces(pieces);
             return Complete(Irp, STATUS_INSUFFICIENT_RESOURCES, 0);
@@ -25,9 +25,8 @@ static NTSTATUS Read(PDEVICE_OBJECT DeviceObject, PIRP Irp)
     IoMarkIrpPending(Irp);
     Irp->IoStatus.Status = STATUS_SUCCESS;
     Irp->IoStatus.Information = 0;
-#ifndef WRONG
-    Irp->AssociatedIrp.IrpCount = PIECES;
-#endif
+    if (WRONG != 1)
+        Irp->AssociatedIrp.IrpCount = PIECES;
     for (int i = 0; i < PIECES; i++)
         IoCallDriver(LowerOf(DeviceObject), pieces[i]);
     return STATUS_PENDING;

@@ -1,6 +1,6 @@
 /* open_at_removal.c: a device that is open is told of its surprise removal, and gets IRP_MN_REMOVE_DEVICE only once its file
-   is closed: the test's own file is closed by then, and that of another thread is waited for. WRONG counts on the removal
-   coming first. */
+   is closed: the test's own file is closed by then, and that of another thread is waited for. WRONG=1 counts on the
+   removal coming first. */
 #include "filter.h"
 
 static NTSTATUS Read(PDEVICE_OBJECT DeviceObject, PIRP Irp) { return Pass(DeviceObject, Irp); }
@@ -55,11 +55,8 @@ static VOID Remove(PDRIVER_OBJECT Driver, BOOLEAN ByAnother)
     } else
         WDM_CHECK(WdmOpenFile(IoGetAttachedDevice(pdo)) != NULL && pdo->ReferenceCount == 1);
     WdmUnplug(pdo, TRUE);
-#ifdef WRONG
-    WDM_CHECK(surprise_at == 1 && remove_at == 2 && close_at == 3);
-#else
-    WDM_CHECK(surprise_at == 1 && close_at == 2 && remove_at == 3);
-#endif
+    const LONG first = WRONG == 1 ? remove_at : close_at, last = WRONG == 1 ? close_at : remove_at;
+    WDM_CHECK(surprise_at == 1 && first == 2 && last == 3); /* told 1: Check */
     if (thread) {
         ZwWaitForSingleObject(thread, FALSE, NULL);
         ZwClose(thread);

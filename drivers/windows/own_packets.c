@@ -1,12 +1,9 @@
 /* own_packets.c: what a driver may do with packets of its own: a location of its own, whose device its routine gets; an
    asynchronous packet whose MDL or system buffer it frees; a cancel routine before any send; a location by hand. WRONG=1 frees
    the packet with the pages of its MDL still locked, WRONG=2 sends one with a cancel routine, WRONG=3 completes one whose routine
-   doesn't keep it, WRONG=4 one whose routine isn't for what it is completed with. */
+   doesn't keep it, WRONG=4 one whose routine isn't for what it is completed with, WRONG=5 looks at another flag to see whether the
+   system buffer is its own. */
 #include "filter.h"
-
-#ifndef WRONG
-#define WRONG 0
-#endif
 
 typedef struct { PDEVICE_OBJECT Owner; KEVENT Done; UCHAR Data[16]; } COPY;
 static LONG cancels;
@@ -17,9 +14,9 @@ static VOID FreeBuffers(PIRP Own)
     if (mdl) {
         if (WRONG != 1)
             MmUnlockPages(mdl);
-        IoFreeMdl(mdl);
+        IoFreeMdl(mdl); /* told 1: MdlLocked */
         Own->MdlAddress = NULL;
-    } else if (Own->AssociatedIrp.SystemBuffer && (Own->Flags & IRP_DEALLOCATE_BUFFER))
+    } else if (Own->AssociatedIrp.SystemBuffer && (Own->Flags & (WRONG == 5 ? IRP_PAGING_IO : IRP_DEALLOCATE_BUFFER)))
         ExFreePool(Own->AssociatedIrp.SystemBuffer);
 }
 
@@ -72,7 +69,7 @@ static VOID PlayWithOwn(VOID)
     IoSetCompletionRoutine(own, KeepOwn, &kept, WRONG != 4, TRUE, TRUE);
     --own->CurrentLocation;
     --own->Tail.Overlay.CurrentStackLocation;
-    IoCompleteRequest(own, IO_NO_INCREMENT);
+    IoCompleteRequest(own, IO_NO_INCREMENT); /* told 3: NotKept */ /* told 4: NotKept */
     WDM_CHECK(kept == 1 && own->CurrentLocation == 2);
     IoFreeIrp(own);
 }
@@ -80,7 +77,7 @@ static VOID PlayWithOwn(VOID)
 static NTSTATUS Copy(PDEVICE_OBJECT DeviceObject, COPY *Made)
 {
     LARGE_INTEGER offset = { .QuadPart = 0 };
-    PIRP own = IoBuildAsynchronousFsdRequest(IRP_MJ_WRITE, LowerOf(DeviceObject), Made->Data, sizeof Made->Data, &offset, NULL);
+    PIRP own = IoBuildAsynchronousFsdRequest(IRP_MJ_WRITE, LowerOf(DeviceObject), Made->Data, sizeof Made->Data, &offset, NULL); /* told 5: PoolLeak */
     if (!own)
         return STATUS_INSUFFICIENT_RESOURCES;
     KeInitializeEvent(&Made->Done, NotificationEvent, FALSE);
@@ -104,7 +101,7 @@ static NTSTATUS SendOwn(PDEVICE_OBJECT DeviceObject, COPY *Made)
     IoSetCompletionRoutine(own, OwnDone, Made, TRUE, TRUE, TRUE);
     if (WRONG == 2)
         IoSetCancelRoutine(own, CancelOwn);
-    IoCallDriver(LowerOf(DeviceObject), own);
+    IoCallDriver(LowerOf(DeviceObject), own); /* told 2: CancelRoutineSet */
     KeWaitForSingleObject(&Made->Done, Executive, KernelMode, FALSE, NULL);
     IoFreeIrp(own);
     return STATUS_SUCCESS;
@@ -124,10 +121,12 @@ static VOID RunOver(ULONG LowerFlags)
 {
     PDEVICE_OBJECT pdo = WdmCreateBottomOf(WDM_BOTTOM_LATE);
     pdo->Flags = (pdo->Flags & ~(ULONG)(DO_BUFFERED_IO | DO_DIRECT_IO)) | LowerFlags;
-    WdmAddDevice(WdmLoadDriver("filter", FilterEntry), pdo);
+    PDRIVER_OBJECT filter = WdmLoadDriver("filter", FilterEntry);
+    WdmAddDevice(filter, pdo);
     WdmPlugIn(pdo);
     WDM_CHECK(WdmSend(IoGetAttachedDevice(pdo), IRP_MJ_READ, 0, 16) == STATUS_SUCCESS);
     WdmUnplug(pdo, FALSE);
+    WdmUnloadDriver(filter);
 }
 
 int main(void)

@@ -1,7 +1,7 @@
 /* stacked.c: a file is of the lowest device of the stack that was opened, and so is the reference. That device is there until
    the file is closed, though its driver deletes it before. A device that is still initializing gets none above it; one that is
    attached takes over how buffers are aligned. WRONG=1 counts on the attach, WRONG=2 takes the file for one of the device that
-   was named, WRONG=3 deletes the device once more. */
+   was named, WRONG=3 deletes the device once more, WRONG=4 counts on its own alignment. */
 #include <wdm.h>
 #include "wdm_test.h"
 
@@ -40,10 +40,11 @@ static NTSTATUS Entry(PDRIVER_OBJECT DriverObject, PUNICODE_STRING RegistryPath)
     status = IoCreateDevice(DriverObject, 0, &name, FILE_DEVICE_UNKNOWN, 0, FALSE, &upper);
     if (!NT_SUCCESS(status))
         return status;
-    WDM_CHECK((IoAttachDeviceToDeviceStack(upper, lower) != NULL) == (WRONG == 1));
+    WDM_CHECK((IoAttachDeviceToDeviceStack(upper, lower) != NULL) == (WRONG == 1)); /* told 1: Check */
     lower->Flags &= ~(ULONG)DO_DEVICE_INITIALIZING;
     WDM_CHECK(IoAttachDeviceToDeviceStack(upper, lower) == lower);
-    WDM_CHECK(upper->AlignmentRequirement == FILE_512_BYTE_ALIGNMENT && upper->SectorSize == 512);
+    WDM_CHECK(upper->AlignmentRequirement == (WRONG == 4 ? 0 : FILE_512_BYTE_ALIGNMENT)); /* told 4: Check */
+    WDM_CHECK(upper->SectorSize == 512);
     return STATUS_SUCCESS;
 }
 
@@ -53,7 +54,7 @@ static PFILE_OBJECT OpenUpper(VOID)
     PFILE_OBJECT file = NULL;
     PDEVICE_OBJECT device = NULL;
     WDM_CHECK(IoGetDeviceObjectPointer(&name, FILE_READ_DATA, &file, &device) == STATUS_SUCCESS && device == upper);
-    WDM_CHECK(file->DeviceObject == (WRONG == 2 ? upper : lower) && IoGetRelatedDeviceObject(file) == upper);
+    WDM_CHECK(file->DeviceObject == (WRONG == 2 ? upper : lower) && IoGetRelatedDeviceObject(file) == upper); /* told 2: Check */
     WDM_CHECK(lower->ReferenceCount == 1 && !upper->ReferenceCount);
     return file;
 }
@@ -71,9 +72,8 @@ int main(void)
     PFILE_OBJECT file = OpenUpper();
     Delete();
     WDM_CHECK(lower->ReferenceCount == 1 && WdmSend(lower, IRP_MJ_READ, 0, 8) == STATUS_SUCCESS && reads == 1);
-#if WRONG == 3
-    IoDeleteDevice(lower);
-#endif
+    if (WRONG == 3)
+        IoDeleteDevice(lower); /* told 3: DeviceGone */
     ObDereferenceObject(file);
     return WdmFinish();
 }

@@ -1,12 +1,10 @@
 /* timers_and_power.c: a timer is initialized anew while it is armed, and goes off all the same, as the others do; a reader goes
    before who waits to have a resource alone, where it asks for that; PoSetPowerState tells the state before; a bus tells the
    states of power; a stack has limits. WRONG=1 takes what PoSetPowerState returns for the new state, WRONG=2 frees a timer that
-   it has only initialized anew. */
+   it has only initialized anew, WRONG=3 waits behind who waits to have the resource alone, WRONG=4 counts the system's states
+   from 0, WRONG=5 exchanges the limits. */
 #include "filter.h"
 
-#ifndef WRONG
-#define WRONG 0
-#endif
 enum { MOMENT = 200000 }; /* 20 milliseconds */
 
 static NTSTATUS Read(PDEVICE_OBJECT DeviceObject, PIRP Irp) { return Pass(DeviceObject, Irp); }
@@ -49,7 +47,7 @@ static VOID FreeTimer(VOID)
         KeInitializeTimer(timer);
     else
         KeCancelTimer(timer);
-    ExFreePoolWithTag(timer, 'emit');
+    ExFreePoolWithTag(timer, 'emit'); /* told 2: TimerInFreedMemory */
 }
 
 static VOID SetPower(PDEVICE_OBJECT Device)
@@ -58,7 +56,7 @@ static VOID SetPower(PDEVICE_OBJECT Device)
     WDM_CHECK(PoSetPowerState(Device, DevicePowerState, state).DeviceState == PowerDeviceUnspecified);
     state.DeviceState = PowerDeviceD3;
     const DEVICE_POWER_STATE wanted = WRONG == 1 ? PowerDeviceD3 : PowerDeviceD0;
-    WDM_CHECK(PoSetPowerState(Device, DevicePowerState, state).DeviceState == wanted);
+    WDM_CHECK(PoSetPowerState(Device, DevicePowerState, state).DeviceState == wanted); /* told 1: Check */
 }
 
 static VOID AskCapabilities(PDEVICE_OBJECT Top)
@@ -72,7 +70,7 @@ static VOID AskCapabilities(PDEVICE_OBJECT Top)
     IoGetNextIrpStackLocation(irp)->Parameters.DeviceCapabilities.Capabilities = &capabilities;
     IoCallDriver(Top, irp);
     KeWaitForSingleObject(&done, Executive, KernelMode, FALSE, NULL);
-    WDM_CHECK(capabilities.DeviceState[PowerSystemWorking] == PowerDeviceD0);
+    WDM_CHECK(capabilities.DeviceState[WRONG == 4 ? 0 : PowerSystemWorking] == PowerDeviceD0); /* told 4: Check */
     WDM_CHECK(capabilities.DeviceState[PowerSystemShutdown] == PowerDeviceD3);
 }
 
@@ -100,7 +98,10 @@ static VOID Starve(PVOID Context)
         KeDelayExecutionThread(KernelMode, FALSE, &moment);
     KeEnterCriticalRegion();
     WDM_CHECK(!ExAcquireResourceSharedLite(&resource, FALSE));
-    WDM_CHECK(ExAcquireSharedStarveExclusive(&resource, FALSE));
+    if (WRONG == 3)
+        ExAcquireResourceSharedLite(&resource, TRUE);
+    else
+        WDM_CHECK(ExAcquireSharedStarveExclusive(&resource, FALSE));
     InterlockedIncrement(&order);
     ExReleaseResourceLite(&resource);
     KeLeaveCriticalRegion();
@@ -119,7 +120,7 @@ static VOID ShareIt(VOID)
     KeSetEvent(&shared, IO_NO_INCREMENT, FALSE);
     PsCreateSystemThread(&threads[0], THREAD_ALL_ACCESS, NULL, NULL, NULL, TakeAlone, NULL);
     PsCreateSystemThread(&threads[1], THREAD_ALL_ACCESS, NULL, NULL, NULL, Starve, NULL);
-    KeWaitForSingleObject(&reads, Executive, KernelMode, FALSE, NULL);
+    KeWaitForSingleObject(&reads, Executive, KernelMode, FALSE, NULL); /* told 3: Hang */
     ExReleaseResourceLite(&resource);
     KeLeaveCriticalRegion();
     for (int i = 0; i < 2; i++) {
@@ -130,17 +131,22 @@ static VOID ShareIt(VOID)
     ExDeleteResourceLite(&resource);
 }
 
-int main(void)
+static BOOLEAN IsOnStack(const VOID *Memory)
 {
     ULONG_PTR low, high;
+    IoGetStackLimits(WRONG == 5 ? &high : &low, WRONG == 5 ? &low : &high);
+    return low < (ULONG_PTR)Memory && (ULONG_PTR)Memory < high && IoGetRemainingStackSize() < high - low;
+}
+
+int main(void)
+{
     PDEVICE_OBJECT pdo = StartFilter(WDM_BOTTOM_LATE);
     SetTimers();
     FreeTimer();
     SetPower(IoGetAttachedDevice(pdo));
     AskCapabilities(IoGetAttachedDevice(pdo));
     ShareIt();
-    IoGetStackLimits(&low, &high);
-    WDM_CHECK(low < (ULONG_PTR)&pdo && (ULONG_PTR)&pdo < high && IoGetRemainingStackSize() < high - low);
+    WDM_CHECK(IsOnStack(&pdo) && !IsOnStack(&resource)); /* told 5: Check */
     WdmUnplug(pdo, FALSE);
     return WdmFinish();
 }

@@ -163,8 +163,8 @@ FAILS = {
         **dict.fromkeys(("290", "292", "294"), "an interface of a device has another name here"),
         **dict.fromkeys(("308", "317", "318"), "without a manager (pnp.c): the child goes in another order"),
         "400": "without a manager (pnp.c): nobody plugs",
-        "587": "an instance has another name here", "756": "it is removed while a file is open",
-        **dict.fromkeys(("801", "802"), "it is removed while a file is open"),
+        "587": "an instance has another name here",
+        **dict.fromkeys(("756", "801", "802"), "without a manager (pnp.c): it is removed while a file is open"),
     },
     "driver_netio.c": dict.fromkeys(("307", "308", "309", "375"), "in the run in which nobody connects"),
 }
