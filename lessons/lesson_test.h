@@ -67,10 +67,10 @@ static struct {
     KSPIN_LOCK Lock;
     NTSTATUS Status;
     ULONG_PTR Information;
-    BOOLEAN HoldsReads, HoldsStarts, HoldsPower;
+    BOOLEAN HoldsReads, HoldsStarts;
     PIRP Held[8];
-    int NHeld, NReads, NStarts;
-    KEVENT GotRemove;
+    int NHeld, NReads;
+    KEVENT Holds, GotRemove;
 } below;
 
 static inline NTSTATUS end_below(PIRP irp, NTSTATUS status, ULONG_PTR information)
@@ -88,6 +88,7 @@ static inline NTSTATUS hold_below(PIRP irp)
     KeAcquireSpinLock(&below.Lock, &irql);
     below.Held[below.NHeld++] = irp;
     KeReleaseSpinLock(&below.Lock, irql);
+    KeSetEvent(&below.Holds, IO_NO_INCREMENT, FALSE);
     return STATUS_PENDING;
 }
 
@@ -114,17 +115,18 @@ static inline NTSTATUS below_read(PDEVICE_OBJECT device, PIRP irp)
     return below.HoldsReads ? hold_below(irp) : end_below(irp, below.Status, below.Information);
 }
 
+/* At its removal it is deleted, as devices below are: it goes when the student's is detached from it. */
 static inline NTSTATUS below_pnp(PDEVICE_OBJECT device, PIRP irp)
 {
     const UCHAR minor = IoGetCurrentIrpStackLocation(irp)->MinorFunction;
-    UNREFERENCED_PARAMETER(device);
-    if (minor == IRP_MN_START_DEVICE) {
-        below.NStarts++;
+    if (minor == IRP_MN_START_DEVICE)
         return below.HoldsStarts ? hold_below(irp) : end_below(irp, below.Status, 0);
-    }
-    if (minor == IRP_MN_REMOVE_DEVICE)
-        KeSetEvent(&below.GotRemove, IO_NO_INCREMENT, FALSE);
-    return end_below(irp, STATUS_SUCCESS, 0);
+    if (minor != IRP_MN_REMOVE_DEVICE)
+        return end_below(irp, STATUS_SUCCESS, 0);
+    KeSetEvent(&below.GotRemove, IO_NO_INCREMENT, FALSE);
+    end_below(irp, STATUS_SUCCESS, 0);
+    IoDeleteDevice(device);
+    return STATUS_SUCCESS;
 }
 
 static inline NTSTATUS below_other(PDEVICE_OBJECT device, PIRP irp)
@@ -148,6 +150,7 @@ static inline NTSTATUS below_entry(PDRIVER_OBJECT driver, PUNICODE_STRING path)
 static inline PDEVICE_OBJECT stack(PDEVICE_OBJECT *bottom)
 {
     KeInitializeSpinLock(&below.Lock);
+    KeInitializeEvent(&below.Holds, SynchronizationEvent, FALSE);
     KeInitializeEvent(&below.GotRemove, NotificationEvent, FALSE);
     *bottom = WdmLoadDriver("below", below_entry)->DeviceObject;
     (*bottom)->Flags &= ~(ULONG)DO_DEVICE_INITIALIZING;
@@ -157,10 +160,26 @@ static inline PDEVICE_OBJECT stack(PDEVICE_OBJECT *bottom)
 
 static inline NTSTATUS pnp(PDEVICE_OBJECT top, UCHAR minor) { return WdmSend(top, IRP_MJ_PNP, minor, 0); }
 
-static inline void take_away(PDEVICE_OBJECT top, PDEVICE_OBJECT bottom)
+static inline void *send_and_tell(void *request)
 {
-    pnp(top, IRP_MN_REMOVE_DEVICE);
-    IoDeleteDevice(bottom);
+    send_it(request);
+    KeSetEvent(&below.Holds, IO_NO_INCREMENT, FALSE);
+    return NULL;
 }
+
+/* Sends a request on a thread of its own, since a dispatch may wait. Returns when the device below holds it, or the call has
+   returned. */
+static inline pthread_t send_until_held(REQUEST *r, PDEVICE_OBJECT top, UCHAR major, UCHAR minor)
+{
+    pthread_t sender;
+    KeClearEvent(&below.Holds);
+    build(r, top, major, 8);
+    IoGetNextIrpStackLocation(r->Irp)->MinorFunction = minor;
+    pthread_create(&sender, NULL, send_and_tell, r);
+    KeWaitForSingleObject(&below.Holds, Executive, KernelMode, FALSE, NULL);
+    return sender;
+}
+
+static inline void take_away(PDEVICE_OBJECT top) { pnp(top, IRP_MN_REMOVE_DEVICE); }
 
 #endif

@@ -4,24 +4,18 @@
 static PDEVICE_OBJECT bottom, top;
 static REQUEST a, b, removal;
 
-static void begin(void)
+static void begin(BOOLEAN holds)
 {
     top = stack(&bottom);
     pnp(top, IRP_MN_START_DEVICE);
-    below.HoldsReads = TRUE;
+    below.HoldsReads = holds;
 }
 
 /* Whoever sends behind the removal has a reference to the device. */
 static void begin_with_a_reference(void)
 {
-    begin();
+    begin(FALSE);
     ObReferenceObject(top);
-}
-
-static void end_with_a_reference(void)
-{
-    ObDereferenceObject(top);
-    IoDeleteDevice(bottom);
 }
 
 static void *remove_it(void *context)
@@ -39,14 +33,11 @@ static void wait_a_moment(LONG milliseconds)
     KeDelayExecutionThread(KernelMode, FALSE, &time);
 }
 
-/* The device below ends what it holds once the removal has come to it. */
-static void *answer_at_the_removal(void *context)
+/* The device below ends what it holds, one way and the other. */
+static void answer_all(void)
 {
-    KeWaitForSingleObject(&below.GotRemove, Executive, KernelMode, FALSE, NULL);
-    wait_a_moment(20);
-    while (answer(STATUS_DELETE_PENDING, 0))
+    while (answer(STATUS_DELETE_PENDING, 0) && answer(STATUS_SUCCESS, 8))
         ;
-    return context;
 }
 
 WDM_TEST(a_request_behind_the_removal_is_refused)
@@ -56,60 +47,49 @@ WDM_TEST(a_request_behind_the_removal_is_refused)
     WDM_CHECK(!NT_SUCCESS(WdmSend(top, IRP_MJ_READ, 0, 4)));
     WDM_CHECK(!NT_SUCCESS(WdmSend(top, IRP_MJ_WRITE, 0, 4)));
     WDM_CHECK(below.NReads == 0);
-    end_with_a_reference();
+    ObDereferenceObject(top);
 }
 
-WDM_TEST(the_removal_waits_for_a_read)
+/* The device below ends the reads once the removal has come to it, and nobody refers to the device when it goes. */
+WDM_TEST(the_removal_waits_for_reads)
 {
-    pthread_t remover, answerer;
-    begin();
-    send(&a, top, IRP_MJ_READ, 4);
-    pthread_create(&answerer, NULL, answer_at_the_removal, NULL);
+    pthread_t remover, senders[2];
+    begin(TRUE);
+    senders[0] = send_until_held(&a, top, IRP_MJ_READ, 0), senders[1] = send_until_held(&b, top, IRP_MJ_READ, 0);
     pthread_create(&remover, NULL, remove_it, NULL);
-    pthread_join(answerer, NULL);
-    pthread_join(remover, NULL);
-    WDM_CHECK(is_done(&a));
-    IoDeleteDevice(bottom);
+    KeWaitForSingleObject(&below.GotRemove, Executive, KernelMode, FALSE, NULL);
+    answer_all();
+    pthread_join(remover, NULL), pthread_join(senders[0], NULL), pthread_join(senders[1], NULL);
+    WDM_CHECK(is_done(&a) && is_done(&b));
 }
 
 /* The second read comes while the removal waits for the first. */
 WDM_TEST(a_read_comes_while_the_removal_waits)
 {
-    pthread_t remover;
-    begin();
-    send(&a, top, IRP_MJ_READ, 4);
+    pthread_t remover, senders[2];
+    begin(TRUE);
+    senders[0] = send_until_held(&a, top, IRP_MJ_READ, 0);
     pthread_create(&remover, NULL, remove_it, NULL);
     KeWaitForSingleObject(&below.GotRemove, Executive, KernelMode, FALSE, NULL);
     wait_a_moment(20);
-    send(&b, top, IRP_MJ_READ, 4);
+    senders[1] = send_until_held(&b, top, IRP_MJ_READ, 0);
     while (answer(STATUS_DELETE_PENDING, 0))
         ;
-    pthread_join(remover, NULL);
+    pthread_join(remover, NULL), pthread_join(senders[0], NULL), pthread_join(senders[1], NULL);
     WDM_CHECK(is_done(&a) && is_done(&b) && !NT_SUCCESS(b.Iosb.Status));
-    IoDeleteDevice(bottom);
 }
 
-WDM_TEST(in_every_order_a_read_meets_the_removal)
+static void meets_the_removal(UCHAR major)
 {
     pthread_t remover;
     begin_with_a_reference();
-    build(&a, top, IRP_MJ_READ, 4);
-    pthread_create(&remover, NULL, remove_it, NULL);
-    send_it(&a);
-    answer(STATUS_SUCCESS, 4);
-    pthread_join(remover, NULL);
-    WDM_CHECK(is_done(&a));
-    end_with_a_reference();
-}
-
-WDM_TEST(in_every_order_a_write_meets_the_removal)
-{
-    pthread_t remover;
-    begin_with_a_reference();
-    build(&a, top, IRP_MJ_WRITE, 4);
+    build(&a, top, major, 4);
     pthread_create(&remover, NULL, remove_it, NULL);
     send_it(&a);
     pthread_join(remover, NULL);
     WDM_CHECK(is_done(&a));
-    end_with_a_reference();
+    ObDereferenceObject(top);
 }
+
+WDM_TEST(in_every_order_a_read_meets_the_removal) { meets_the_removal(IRP_MJ_READ); }
+WDM_TEST(in_every_order_a_write_meets_the_removal) { meets_the_removal(IRP_MJ_WRITE); }

@@ -99,6 +99,8 @@ HINTS = [
          "on each way?", '"System Worker Threads"', "Call IoFreeWorkItem once for each IoAllocateWorkItem."),
     Hint("FAULT (LeftBehind|PoolLeak)", "The driver is unloaded, and something of it is still there. Who should have freed it?",
          '"Writing an Unload Routine"', "Free what you allocated on each way that the packet can take."),
+    Hint("FAULT QueuedTwice.*is freed", "Who needs the work item last, and when is that over?", '"System Worker Threads"',
+         "Free it in its routine."),
     Hint("FAULT QueuedTwice", "A work item serves one packet at a time. How many reads can be under way?",
          '"System Worker Threads"', "Allocate a work item for each read, and free it in its routine."),
     Hint("FAULT UsedInFreedMemory.*no work item", "Memory may be short. What do you have then instead of a work item, and which "
@@ -106,7 +108,7 @@ HINTS = [
          "STATUS_INSUFFICIENT_RESOURCES."),
     Hint("FAULT (WrongTag|NotPool|FreedTwice)", "Which line allocated this memory, how, and how often is it freed?",
          '"ExFreePoolWithTag"', "Free it once, with the tag and the pointer of its allocation."),
-    Hint("FAULT UsedInFreedMemory", "What you use there is gone already. Who freed it, and who still needed it?",
+    Hint("FAULT Used(InFreedMemory|AfterFree)", "What you use there is gone already. Who freed it, and who still needed it?",
          '"Managing Memory for Drivers"', "Free it where nobody can use it any more."),
     Hint("FAULT (PnpStatusChanged|RemoveFailed)", "Who decides what becomes of this request, and which status may you change?",
          '"Handling PnP IRPs"', "Pass requests that you don't handle down with their status unchanged."),
@@ -134,7 +136,7 @@ HINTS = [
     Hint("illegal", "No line of yours is wrong by itself, and still no I/O manager gives these answers. Which call comes too "
          "early or too late?", "docs/RULES.md", "Ask `bin/irp why` of the transcript."),
 ]
-# The same of one lesson, before those, whatever line has it.
+# The same of one lesson, before those.
 HINTS_OF = {
     2: [Hint(r"FAULT Lost", "Who has the packet when the dispatch returns: you, or the work item? What does the dispatch return "
              "then?", PENDING, "If the work item has it: mark, queue, return STATUS_PENDING. If not: complete it."),
@@ -170,8 +172,8 @@ HINTS_OF = {
         Hint(r"FAULT Hang.*(ReleaseRemoveLockAndWait|AndWait)", "The removal waits for a read that is below. What makes the device "
              "below give it back, and has it heard of the removal?", LOCKS,
              "Pass IRP_MN_REMOVE_DEVICE down first, then call IoReleaseRemoveLockAndWait.")],
-    11: [Hint(r"FAULT (UsedInFreedMemory|LockInFreedMemory|WrittenAfterFree|FreedTwice)", "Who used the file's counter after it "
-              "was freed, and which request says that nobody will?", '"DispatchClose Routines"',
+    11: [Hint(r"FAULT (UsedInFreedMemory|UsedAfterFree|LockInFreedMemory|WrittenAfterFree|FreedTwice)", "Who used the "
+              "file's counter after it was freed, and which request says that nobody will?", '"DispatchClose Routines"',
               "Free it in the dispatch for IRP_MJ_CLOSE."),
          Hint(r"FAULT Check.*reads", "Whose reads does the counter count, and from when until when is it there?",
               '"DispatchCreate, DispatchClose, and DispatchCreateClose Routines"', "Keep a counter for each FILE_OBJECT, from "
@@ -199,6 +201,5 @@ HINTS_OF[9] = HINTS_OF[6]
 
 def hint_of(number, said):
     """Returns the hint for the first fault, from which the others may follow, or None."""
-    own = [it for it in HINTS_OF.get(number, []) if re.search(it.text, said)]
-    found = (it for line in said.splitlines() for it in HINTS if re.search(it.text, line))
-    return own[0] if own else next(found, None)
+    known = HINTS_OF.get(number, []) + HINTS
+    return next((it for line in said.splitlines() for it in known if re.search(it.text, line)), None)
