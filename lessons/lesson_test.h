@@ -11,12 +11,13 @@
 #include <wdm_test.h>
 
 /* A request that the I/O manager frees at its end. */
-typedef struct { PIRP Irp; PDEVICE_OBJECT Top; IO_STATUS_BLOCK Iosb; KEVENT Done; } REQUEST;
+typedef struct { PIRP Irp; PDEVICE_OBJECT Top; IO_STATUS_BLOCK Iosb; KEVENT Done; volatile LONG HasReturned; } REQUEST;
 
 static inline PIRP build(REQUEST *r, PDEVICE_OBJECT top, UCHAR major, ULONG length)
 {
     KeInitializeEvent(&r->Done, NotificationEvent, FALSE);
     r->Top = top;
+    r->HasReturned = FALSE;
     r->Irp = WdmBuildIrp(top, major, 0, length, &r->Iosb, &r->Done);
     return r->Irp;
 }
@@ -115,18 +116,15 @@ static inline NTSTATUS below_read(PDEVICE_OBJECT device, PIRP irp)
     return below.HoldsReads ? hold_below(irp) : end_below(irp, below.Status, below.Information);
 }
 
-/* At its removal it is deleted, as devices below are: it goes when the student's is detached from it. */
 static inline NTSTATUS below_pnp(PDEVICE_OBJECT device, PIRP irp)
 {
     const UCHAR minor = IoGetCurrentIrpStackLocation(irp)->MinorFunction;
+    UNREFERENCED_PARAMETER(device);
     if (minor == IRP_MN_START_DEVICE)
         return below.HoldsStarts ? hold_below(irp) : end_below(irp, below.Status, 0);
-    if (minor != IRP_MN_REMOVE_DEVICE)
-        return end_below(irp, STATUS_SUCCESS, 0);
-    KeSetEvent(&below.GotRemove, IO_NO_INCREMENT, FALSE);
-    end_below(irp, STATUS_SUCCESS, 0);
-    IoDeleteDevice(device);
-    return STATUS_SUCCESS;
+    if (minor == IRP_MN_REMOVE_DEVICE)
+        KeSetEvent(&below.GotRemove, IO_NO_INCREMENT, FALSE);
+    return end_below(irp, STATUS_SUCCESS, 0);
 }
 
 static inline NTSTATUS below_other(PDEVICE_OBJECT device, PIRP irp)
@@ -163,6 +161,7 @@ static inline NTSTATUS pnp(PDEVICE_OBJECT top, UCHAR minor) { return WdmSend(top
 static inline void *send_and_tell(void *request)
 {
     send_it(request);
+    InterlockedExchange(&((REQUEST *)request)->HasReturned, TRUE);
     KeSetEvent(&below.Holds, IO_NO_INCREMENT, FALSE);
     return NULL;
 }
@@ -172,14 +171,20 @@ static inline void *send_and_tell(void *request)
 static inline pthread_t send_until_held(REQUEST *r, PDEVICE_OBJECT top, UCHAR major, UCHAR minor)
 {
     pthread_t sender;
-    KeClearEvent(&below.Holds);
+    const int before = below.NHeld;
     build(r, top, major, 8);
     IoGetNextIrpStackLocation(r->Irp)->MinorFunction = minor;
     pthread_create(&sender, NULL, send_and_tell, r);
-    KeWaitForSingleObject(&below.Holds, Executive, KernelMode, FALSE, NULL);
+    do
+        KeWaitForSingleObject(&below.Holds, Executive, KernelMode, FALSE, NULL);
+    while (below.NHeld == before && !r->HasReturned);
     return sender;
 }
 
-static inline void take_away(PDEVICE_OBJECT top) { pnp(top, IRP_MN_REMOVE_DEVICE); }
+static inline void take_away(PDEVICE_OBJECT top, PDEVICE_OBJECT bottom)
+{
+    pnp(top, IRP_MN_REMOVE_DEVICE);
+    IoDeleteDevice(bottom);
+}
 
 #endif

@@ -35,7 +35,7 @@ WDM_TEST(bytes_has_the_sum)
     WDM_CHECK(Bytes == 8);
     read_later(STATUS_IO_DEVICE_ERROR, 0);
     WDM_CHECK(a.Iosb.Status == STATUS_IO_DEVICE_ERROR && Bytes == 8);
-    take_away(top);
+    take_away(top, bottom);
 }
 
 WDM_TEST(in_every_order_two_reads_come_back)
@@ -48,6 +48,7 @@ WDM_TEST(in_every_order_two_reads_come_back)
     pthread_create(&other, NULL, answer_five, NULL);
     answer(STATUS_SUCCESS, 3);
     pthread_join(other, NULL), pthread_join(senders[0], NULL), pthread_join(senders[1], NULL);
-    WDM_CHECK(is_done(&a) && is_done(&b) && Bytes == 8);
-    take_away(top);
+    WDM_CHECK(is_done(&a) && is_done(&b));
+    WDM_CHECK(Bytes == 3 + 5);
+    take_away(top, bottom);
 }

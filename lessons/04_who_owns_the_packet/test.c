@@ -20,5 +20,5 @@ WDM_TEST(last_length_is_the_length_of_the_last_answer)
     wait_for(&a);
     WDM_CHECK(LastLength == 5);
     pthread_join(sender, NULL);
-    take_away(top);
+    take_away(top, bottom);
 }

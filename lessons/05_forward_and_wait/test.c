@@ -31,7 +31,7 @@ WDM_TEST(it_starts_when_the_drivers_below_have_started)
     WDM_CHECK(!answers_reads(top));
     start_later(top, STATUS_SUCCESS, TRUE);
     WDM_CHECK(answers_reads(top));
-    take_away(top);
+    take_away(top, bottom);
 }
 
 WDM_TEST(it_starts_a_second_time)
@@ -41,7 +41,7 @@ WDM_TEST(it_starts_a_second_time)
     pnp(top, IRP_MN_QUERY_STOP_DEVICE), pnp(top, IRP_MN_STOP_DEVICE);
     start_later(top, STATUS_SUCCESS, FALSE);
     WDM_CHECK(answers_reads(top));
-    take_away(top);
+    take_away(top, bottom);
 }
 
 /* However long the drivers below take. */
@@ -54,7 +54,7 @@ WDM_TEST(in_every_order_it_waits_for_the_drivers_below)
     answer(STATUS_SUCCESS, 0);
     wait_for(&r);
     pthread_join(sender, NULL);
-    take_away(top);
+    take_away(top, bottom);
 }
 
 WDM_TEST(it_starts_when_they_start_at_once)
@@ -62,7 +62,7 @@ WDM_TEST(it_starts_when_they_start_at_once)
     PDEVICE_OBJECT bottom, top = stack(&bottom);
     WDM_CHECK(pnp(top, IRP_MN_START_DEVICE) == STATUS_SUCCESS);
     WDM_CHECK(answers_reads(top));
-    take_away(top);
+    take_away(top, bottom);
 }
 
 WDM_TEST(it_does_not_start_where_they_fail_later)
@@ -70,7 +70,7 @@ WDM_TEST(it_does_not_start_where_they_fail_later)
     PDEVICE_OBJECT bottom, top = stack(&bottom);
     start_later(top, STATUS_IO_DEVICE_ERROR, TRUE);
     WDM_CHECK(!answers_reads(top));
-    take_away(top);
+    take_away(top, bottom);
 }
 
 WDM_TEST(it_does_not_start_where_they_fail_at_once)
@@ -80,5 +80,5 @@ WDM_TEST(it_does_not_start_where_they_fail_at_once)
     WDM_CHECK(pnp(top, IRP_MN_START_DEVICE) == STATUS_IO_DEVICE_ERROR);
     below.Status = STATUS_SUCCESS;
     WDM_CHECK(!answers_reads(top));
-    take_away(top);
+    take_away(top, bottom);
 }

@@ -4,18 +4,11 @@
 static PDEVICE_OBJECT bottom, top;
 static REQUEST a, b, removal;
 
-static void begin(BOOLEAN holds)
+static void begin(void)
 {
     top = stack(&bottom);
     pnp(top, IRP_MN_START_DEVICE);
-    below.HoldsReads = holds;
-}
-
-/* Whoever sends behind the removal has a reference to the device. */
-static void begin_with_a_reference(void)
-{
-    begin(FALSE);
-    ObReferenceObject(top);
+    below.HoldsReads = TRUE;
 }
 
 static void *remove_it(void *context)
@@ -33,41 +26,45 @@ static void wait_a_moment(LONG milliseconds)
     KeDelayExecutionThread(KernelMode, FALSE, &time);
 }
 
-/* The device below ends what it holds, one way and the other. */
-static void answer_all(void)
+static void *answer_with_an_error(void *context)
 {
-    while (answer(STATUS_DELETE_PENDING, 0) && answer(STATUS_SUCCESS, 8))
-        ;
+    answer(STATUS_DELETE_PENDING, 0);
+    return context;
 }
 
+/* Whoever sends behind the removal has a reference to the device. */
 WDM_TEST(a_request_behind_the_removal_is_refused)
 {
-    begin_with_a_reference();
+    begin();
+    ObReferenceObject(top);
     remove_it(NULL);
     WDM_CHECK(!NT_SUCCESS(WdmSend(top, IRP_MJ_READ, 0, 4)));
     WDM_CHECK(!NT_SUCCESS(WdmSend(top, IRP_MJ_WRITE, 0, 4)));
     WDM_CHECK(below.NReads == 0);
     ObDereferenceObject(top);
+    IoDeleteDevice(bottom);
 }
 
-/* The device below ends the reads once the removal has come to it, and nobody refers to the device when it goes. */
-WDM_TEST(the_removal_waits_for_reads)
+/* The device below ends both reads once the removal has come to it. Nobody refers to the device any more when it goes. */
+WDM_TEST(in_every_order_the_removal_waits_for_two_reads)
 {
-    pthread_t remover, senders[2];
-    begin(TRUE);
+    pthread_t remover, other, senders[2];
+    begin();
     senders[0] = send_until_held(&a, top, IRP_MJ_READ, 0), senders[1] = send_until_held(&b, top, IRP_MJ_READ, 0);
     pthread_create(&remover, NULL, remove_it, NULL);
     KeWaitForSingleObject(&below.GotRemove, Executive, KernelMode, FALSE, NULL);
-    answer_all();
-    pthread_join(remover, NULL), pthread_join(senders[0], NULL), pthread_join(senders[1], NULL);
+    pthread_create(&other, NULL, answer_with_an_error, NULL);
+    answer(STATUS_SUCCESS, 8);
+    pthread_join(other, NULL), pthread_join(remover, NULL), pthread_join(senders[0], NULL), pthread_join(senders[1], NULL);
     WDM_CHECK(is_done(&a) && is_done(&b));
+    IoDeleteDevice(bottom);
 }
 
 /* The second read comes while the removal waits for the first. */
 WDM_TEST(a_read_comes_while_the_removal_waits)
 {
     pthread_t remover, senders[2];
-    begin(TRUE);
+    begin();
     senders[0] = send_until_held(&a, top, IRP_MJ_READ, 0);
     pthread_create(&remover, NULL, remove_it, NULL);
     KeWaitForSingleObject(&below.GotRemove, Executive, KernelMode, FALSE, NULL);
@@ -77,18 +74,22 @@ WDM_TEST(a_read_comes_while_the_removal_waits)
         ;
     pthread_join(remover, NULL), pthread_join(senders[0], NULL), pthread_join(senders[1], NULL);
     WDM_CHECK(is_done(&a) && is_done(&b) && !NT_SUCCESS(b.Iosb.Status));
+    IoDeleteDevice(bottom);
 }
 
 static void meets_the_removal(UCHAR major)
 {
     pthread_t remover;
-    begin_with_a_reference();
+    begin();
+    below.HoldsReads = FALSE;
+    ObReferenceObject(top);
     build(&a, top, major, 4);
     pthread_create(&remover, NULL, remove_it, NULL);
     send_it(&a);
     pthread_join(remover, NULL);
     WDM_CHECK(is_done(&a));
     ObDereferenceObject(top);
+    IoDeleteDevice(bottom);
 }
 
 WDM_TEST(in_every_order_a_read_meets_the_removal) { meets_the_removal(IRP_MJ_READ); }

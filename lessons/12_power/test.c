@@ -44,5 +44,5 @@ WDM_TEST(the_device_follows_the_system)
     WDM_CHECK(n_device_packets == 1 && last_device_state == PowerDeviceD3);
     set_system(top, PowerSystemWorking);
     WDM_CHECK(n_device_packets == 2 && last_device_state == PowerDeviceD0);
-    take_away(top);
+    take_away(top, bottom);
 }

@@ -24,7 +24,7 @@ WDM_TEST(it_stops_and_starts_again)
     WDM_CHECK(tell(IRP_MN_QUERY_STOP_DEVICE) && !answers_reads());
     WDM_CHECK(tell(IRP_MN_STOP_DEVICE) && !answers_reads());
     WDM_CHECK(tell(IRP_MN_START_DEVICE) && answers_reads());
-    take_away(top);
+    take_away(top, bottom);
 }
 
 WDM_TEST(a_stop_comes_to_nothing)
@@ -33,7 +33,7 @@ WDM_TEST(a_stop_comes_to_nothing)
     tell(IRP_MN_START_DEVICE);
     tell(IRP_MN_QUERY_STOP_DEVICE);
     WDM_CHECK(tell(IRP_MN_CANCEL_STOP_DEVICE) && answers_reads());
-    take_away(top);
+    take_away(top, bottom);
 }
 
 WDM_TEST(a_removal_comes_to_nothing)
@@ -42,7 +42,7 @@ WDM_TEST(a_removal_comes_to_nothing)
     tell(IRP_MN_START_DEVICE);
     WDM_CHECK(tell(IRP_MN_QUERY_REMOVE_DEVICE) && !answers_reads());
     WDM_CHECK(tell(IRP_MN_CANCEL_REMOVE_DEVICE) && answers_reads());
-    take_away(top);
+    take_away(top, bottom);
 }
 
 /* A driver above said no, so the question didn't come down here; and the device hasn't started. */
@@ -51,7 +51,7 @@ WDM_TEST(a_cancel_without_a_query_starts_nothing)
     top = stack(&bottom);
     WDM_CHECK(tell(IRP_MN_CANCEL_REMOVE_DEVICE) && !answers_reads());
     WDM_CHECK(tell(IRP_MN_QUERY_REMOVE_DEVICE) && tell(IRP_MN_CANCEL_REMOVE_DEVICE) && !answers_reads());
-    take_away(top);
+    take_away(top, bottom);
 }
 
 WDM_TEST(the_device_is_gone)
@@ -59,7 +59,7 @@ WDM_TEST(the_device_is_gone)
     top = stack(&bottom);
     tell(IRP_MN_START_DEVICE);
     WDM_CHECK(tell(IRP_MN_SURPRISE_REMOVAL) && !answers_reads());
-    take_away(top);
+    take_away(top, bottom);
 }
 
 WDM_TEST(it_is_not_started_where_the_drivers_below_fail)
@@ -69,7 +69,7 @@ WDM_TEST(it_is_not_started_where_the_drivers_below_fail)
     WDM_CHECK(!tell(IRP_MN_START_DEVICE));
     below.Status = STATUS_SUCCESS;
     WDM_CHECK(!answers_reads());
-    take_away(top);
+    take_away(top, bottom);
 }
 
 /* Two devices are asked at once. The other one was never started. */
@@ -84,6 +84,6 @@ WDM_TEST(each_device_has_its_own_state)
     tell(IRP_MN_QUERY_REMOVE_DEVICE);
     pnp(IoGetAttachedDevice(other), IRP_MN_QUERY_REMOVE_DEVICE);
     WDM_CHECK(tell(IRP_MN_CANCEL_REMOVE_DEVICE) && answers_reads());
-    take_away(IoGetAttachedDevice(other));
-    take_away(top);
+    take_away(IoGetAttachedDevice(other), other);
+    take_away(top, bottom);
 }

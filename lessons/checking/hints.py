@@ -142,7 +142,9 @@ HINTS_OF = {
              "then?", PENDING, "If the work item has it: mark, queue, return STATUS_PENDING. If not: complete it."),
         Hint(r"FAULT Check.*Information", "What does the caller learn from IoStatus.Information?", COMPLETE,
              "Set Information to the length that was read.")],
-    3: [Hint(r"FAULT Check.*Bytes", "Which reads did your routine see, and what does Information say in each?", ROUTINES,
+    3: [Hint(r"FAULT Check.*Bytes == 3 \+ 5", "Two reads come back at once. What may happen between your look at Bytes and your change "
+             "of it?", '"Introduction to Spin Locks"', "Add by InterlockedExchangeAdd, or under a spin lock."),
+        Hint(r"FAULT Check.*Bytes", "Which reads did your routine see, and what does Information say in each?", ROUTINES,
              "Add Irp->IoStatus.Information in the completion routine, on success and on error.")],
     4: [Hint(r"FAULT Check.*LastLength", "Who knows how long the answer is, and from when on? When does your line run?", OWNER,
              "Set LastLength from Irp->IoStatus.Information in a completion routine, or after a wait.")],
@@ -165,7 +167,9 @@ HINTS_OF = {
                     "write answer then?", CANCEL, "Go on to the next entry where IoSetCancelRoutine returns NULL."),
         Hint(r"FAULT Check.*is_answered", "Which of the waiting reads did the write answer, and which one is the oldest?",
              '"Cancel-Safe IRP Queues"', "Insert at the tail, and take one from the head.")],
-    8: [Hint(r"FAULT Check.*NT_SUCCESS", "The removal has begun. Who may still send something down, and who told your driver that "
+    8: [Hint(r"you have detached yours", "Who may still send something to the device below when you detach from it, and until when?",
+             LOCKS, "Detach, and then delete, after IoReleaseRemoveLockAndWait."),
+        Hint(r"FAULT Check.*NT_SUCCESS", "The removal has begun. Who may still send something down, and who told your driver that "
              "it can't?", LOCKS, "Acquire the lock first. If that fails, complete the request with the status that it gave."),
         Hint(r"FAULT Check.*NReads", "This read came behind the removal, and the device below got it. Which call would have told "
              "you?", LOCKS, "Don't send where IoAcquireRemoveLock fails."),

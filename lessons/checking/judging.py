@@ -153,6 +153,8 @@ class Judge:
             return f"the test reads {name}: leave its declaration as it is."
         if self.number == 2 and "IoQueueWorkItem" not in code:
             return "no work item answers the read any more."
+        if self.number == 8 and re.search(r"(?ms)\bIoDetachDevice\s*\((?:(?!^\}).)*\bIoReleaseRemoveLockAndWait\s*\(", code):
+            return "who has the lock may still send to the device below, and you have detached yours."
         if self.number == 12 and "PoRequestPowerIrp" not in code:
             return "nobody asks for the device's packet any more."
         if self.number == 14 and probes_outside(code):
