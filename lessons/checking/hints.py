@@ -167,7 +167,7 @@ HINTS_OF = {
                     "write answer then?", CANCEL, "Go on to the next entry where IoSetCancelRoutine returns NULL."),
         Hint(r"FAULT Check.*is_answered", "Which of the waiting reads did the write answer, and which one is the oldest?",
              '"Cancel-Safe IRP Queues"', "Insert at the tail, and take one from the head.")],
-    8: [Hint(r"you have detached yours", "Who may still send something to the device below when you detach from it, and until when?",
+    8: [Hint(r"yours is detached", "Who may still send something to the device below when you detach from it, and until when?",
              LOCKS, "Detach, and then delete, after IoReleaseRemoveLockAndWait."),
         Hint(r"FAULT Check.*NT_SUCCESS", "The removal has begun. Who may still send something down, and who told your driver that "
              "it can't?", LOCKS, "Acquire the lock first. If that fails, complete the request with the status that it gave."),

@@ -154,7 +154,7 @@ class Judge:
         if self.number == 2 and "IoQueueWorkItem" not in code:
             return "no work item answers the read any more."
         if self.number == 8 and re.search(r"(?ms)\bIoDetachDevice\s*\((?:(?!^\}).)*\bIoReleaseRemoveLockAndWait\s*\(", code):
-            return "who has the lock may still send to the device below, and you have detached yours."
+            return "yours is detached while who has the lock may still send to the device below."
         if self.number == 12 and "PoRequestPowerIrp" not in code:
             return "nobody asks for the device's packet any more."
         if self.number == 14 and probes_outside(code):
