@@ -201,6 +201,8 @@ HINTS_OF = {
               "you write, and set Information to what you wrote.")],
 }
 HINTS_OF[9] = HINTS_OF[6]
+HINTS_OF[15] = [Hint(r"^line \d+, column \d+: ", "This line is no step that can be made. Which names have the lines above it given?",
+                     "docs/WORDS.md", "Let a step name only what stands above it, on the same seat.")]
 
 
 def hint_of(number, said):
