@@ -166,8 +166,8 @@ static inline void *send_and_tell(void *request)
     return NULL;
 }
 
-/* Sends a request on a thread of its own, since a dispatch may wait. Returns when the device below holds it, or the call has
-   returned. */
+/* Sends a request on a thread of its own, since a dispatch may wait. Returns when the device below holds it, or the
+   call has returned. */
 static inline pthread_t send_until_held(REQUEST *r, PDEVICE_OBJECT top, UCHAR major, UCHAR minor)
 {
     pthread_t sender;

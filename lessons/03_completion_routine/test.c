@@ -1,5 +1,5 @@
-/* Bytes has the sum of what reads were answered with, whether they were answered at once, later, or with an error; and where
-   two come back at once. */
+/* Bytes has the sum of what reads were answered with, whether they were answered at once, later, or with an error;
+   and where two come back at once. */
 #include "../lesson_test.h"
 
 extern volatile LONG Bytes;

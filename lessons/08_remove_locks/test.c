@@ -45,7 +45,7 @@ WDM_TEST(a_request_behind_the_removal_is_refused)
     IoDeleteDevice(bottom);
 }
 
-/* The device below ends both reads once the removal has come to it. Nobody refers to the device any more when it goes. */
+/* The device below ends both reads once the removal has come to it. Nobody refers to the device when it goes. */
 WDM_TEST(in_every_order_the_removal_waits_for_two_reads)
 {
     pthread_t remover, other, senders[2];
@@ -55,7 +55,8 @@ WDM_TEST(in_every_order_the_removal_waits_for_two_reads)
     KeWaitForSingleObject(&below.GotRemove, Executive, KernelMode, FALSE, NULL);
     pthread_create(&other, NULL, answer_with_an_error, NULL);
     answer(STATUS_SUCCESS, 8);
-    pthread_join(other, NULL), pthread_join(remover, NULL), pthread_join(senders[0], NULL), pthread_join(senders[1], NULL);
+    pthread_join(other, NULL), pthread_join(remover, NULL);
+    pthread_join(senders[0], NULL), pthread_join(senders[1], NULL);
     WDM_CHECK(is_done(&a) && is_done(&b));
     IoDeleteDevice(bottom);
 }
