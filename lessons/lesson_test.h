@@ -11,12 +11,13 @@
 #include <wdm_test.h>
 
 /* A request that the I/O manager frees at its end. */
-typedef struct { PIRP Irp; PDEVICE_OBJECT Top; IO_STATUS_BLOCK Iosb; KEVENT Done; } REQUEST;
+typedef struct { PIRP Irp; PDEVICE_OBJECT Top; IO_STATUS_BLOCK Iosb; KEVENT Done; volatile LONG HasReturned; } REQUEST;
 
 static inline PIRP build(REQUEST *r, PDEVICE_OBJECT top, UCHAR major, ULONG length)
 {
     KeInitializeEvent(&r->Done, NotificationEvent, FALSE);
     r->Top = top;
+    r->HasReturned = FALSE;
     r->Irp = WdmBuildIrp(top, major, 0, length, &r->Iosb, &r->Done);
     return r->Irp;
 }
@@ -67,10 +68,10 @@ static struct {
     KSPIN_LOCK Lock;
     NTSTATUS Status;
     ULONG_PTR Information;
-    BOOLEAN HoldsReads, HoldsStarts, HoldsPower;
+    BOOLEAN HoldsReads, HoldsStarts;
     PIRP Held[8];
-    int NHeld, NReads, NStarts;
-    KEVENT GotRemove;
+    int NHeld, NReads;
+    KEVENT Holds, GotRemove;
 } below;
 
 static inline NTSTATUS end_below(PIRP irp, NTSTATUS status, ULONG_PTR information)
@@ -88,6 +89,7 @@ static inline NTSTATUS hold_below(PIRP irp)
     KeAcquireSpinLock(&below.Lock, &irql);
     below.Held[below.NHeld++] = irp;
     KeReleaseSpinLock(&below.Lock, irql);
+    KeSetEvent(&below.Holds, IO_NO_INCREMENT, FALSE);
     return STATUS_PENDING;
 }
 
@@ -118,10 +120,8 @@ static inline NTSTATUS below_pnp(PDEVICE_OBJECT device, PIRP irp)
 {
     const UCHAR minor = IoGetCurrentIrpStackLocation(irp)->MinorFunction;
     UNREFERENCED_PARAMETER(device);
-    if (minor == IRP_MN_START_DEVICE) {
-        below.NStarts++;
+    if (minor == IRP_MN_START_DEVICE)
         return below.HoldsStarts ? hold_below(irp) : end_below(irp, below.Status, 0);
-    }
     if (minor == IRP_MN_REMOVE_DEVICE)
         KeSetEvent(&below.GotRemove, IO_NO_INCREMENT, FALSE);
     return end_below(irp, STATUS_SUCCESS, 0);
@@ -148,6 +148,7 @@ static inline NTSTATUS below_entry(PDRIVER_OBJECT driver, PUNICODE_STRING path)
 static inline PDEVICE_OBJECT stack(PDEVICE_OBJECT *bottom)
 {
     KeInitializeSpinLock(&below.Lock);
+    KeInitializeEvent(&below.Holds, SynchronizationEvent, FALSE);
     KeInitializeEvent(&below.GotRemove, NotificationEvent, FALSE);
     *bottom = WdmLoadDriver("below", below_entry)->DeviceObject;
     (*bottom)->Flags &= ~(ULONG)DO_DEVICE_INITIALIZING;
@@ -156,6 +157,29 @@ static inline PDEVICE_OBJECT stack(PDEVICE_OBJECT *bottom)
 }
 
 static inline NTSTATUS pnp(PDEVICE_OBJECT top, UCHAR minor) { return WdmSend(top, IRP_MJ_PNP, minor, 0); }
+
+static inline void *send_and_tell(void *request)
+{
+    send_it(request);
+    InterlockedExchange(&((REQUEST *)request)->HasReturned, TRUE);
+    KeSetEvent(&below.Holds, IO_NO_INCREMENT, FALSE);
+    return NULL;
+}
+
+/* Sends a request on a thread of its own, since a dispatch may wait. Returns when the device below holds it, or the
+   call has returned. */
+static inline pthread_t send_until_held(REQUEST *r, PDEVICE_OBJECT top, UCHAR major, UCHAR minor)
+{
+    pthread_t sender;
+    const int before = below.NHeld;
+    build(r, top, major, 8);
+    IoGetNextIrpStackLocation(r->Irp)->MinorFunction = minor;
+    pthread_create(&sender, NULL, send_and_tell, r);
+    do
+        KeWaitForSingleObject(&below.Holds, Executive, KernelMode, FALSE, NULL);
+    while (below.NHeld == before && !r->HasReturned);
+    return sender;
+}
 
 static inline void take_away(PDEVICE_OBJECT top, PDEVICE_OBJECT bottom)
 {

@@ -6,7 +6,6 @@ extern volatile LONG LastLength;
 WDM_TEST(last_length_is_the_length_of_the_last_answer)
 {
     static REQUEST a;
-    pthread_t t;
     PDEVICE_OBJECT bottom, top = stack(&bottom);
     pnp(top, IRP_MN_START_DEVICE);
     for (LONG length = 3; length > 1; length--) {
@@ -16,14 +15,10 @@ WDM_TEST(last_length_is_the_length_of_the_last_answer)
         WDM_CHECK(LastLength == length);
     }
     below.HoldsReads = TRUE;
-    build(&a, top, IRP_MJ_READ, 8);
-    pthread_create(&t, NULL, send_it, &a);
-    while (!answer(STATUS_SUCCESS, 5)) {
-        LARGE_INTEGER a_moment = { .QuadPart = -10000 };
-        KeDelayExecutionThread(KernelMode, FALSE, &a_moment);
-    }
+    pthread_t sender = send_until_held(&a, top, IRP_MJ_READ, 0);
+    answer(STATUS_SUCCESS, 5);
     wait_for(&a);
     WDM_CHECK(LastLength == 5);
-    pthread_join(t, NULL);
+    pthread_join(sender, NULL);
     take_away(top, bottom);
 }

@@ -2,38 +2,25 @@
    failed. */
 #include "../lesson_test.h"
 
-static void *start_it(void *request)
-{
-    REQUEST *r = request;
-    IoGetNextIrpStackLocation(r->Irp)->MinorFunction = IRP_MN_START_DEVICE;
-    IoCallDriver(r->Top, r->Irp);
-    return NULL;
-}
-
 static BOOLEAN answers_reads(PDEVICE_OBJECT top)
 {
     const NTSTATUS status = WdmSend(top, IRP_MJ_READ, 0, 4);
     return NT_SUCCESS(status);
 }
 
-/* The drivers below take their time, and then answer with a status. */
-static void start_later(PDEVICE_OBJECT top, NTSTATUS status)
+/* The drivers below take their time, and then answer with a status. `is_new`: it wasn't started before. */
+static void start_later(PDEVICE_OBJECT top, NTSTATUS status, BOOLEAN is_new)
 {
     static REQUEST r;
-    pthread_t t;
     LARGE_INTEGER a_moment = { .QuadPart = -10000LL * 20 };
-    const int before = below.NStarts;
     below.HoldsStarts = TRUE;
-    build(&r, top, IRP_MJ_PNP, 0);
-    pthread_create(&t, NULL, start_it, &r);
-    while (below.NStarts == before || !below.NHeld)
-        KeDelayExecutionThread(KernelMode, FALSE, &a_moment);
+    pthread_t sender = send_until_held(&r, top, IRP_MJ_PNP, IRP_MN_START_DEVICE);
     KeDelayExecutionThread(KernelMode, FALSE, &a_moment);
     WDM_CHECK(!is_done(&r));
-    WDM_CHECK(!answers_reads(top));
+    WDM_CHECK(!is_new || !answers_reads(top));
     answer(status, 0);
     wait_for(&r);
-    pthread_join(t, NULL);
+    pthread_join(sender, NULL);
     WDM_CHECK(r.Iosb.Status == status);
     below.HoldsStarts = FALSE;
 }
@@ -42,8 +29,31 @@ WDM_TEST(it_starts_when_the_drivers_below_have_started)
 {
     PDEVICE_OBJECT bottom, top = stack(&bottom);
     WDM_CHECK(!answers_reads(top));
-    start_later(top, STATUS_SUCCESS);
+    start_later(top, STATUS_SUCCESS, TRUE);
     WDM_CHECK(answers_reads(top));
+    take_away(top, bottom);
+}
+
+WDM_TEST(it_starts_a_second_time)
+{
+    PDEVICE_OBJECT bottom, top = stack(&bottom);
+    start_later(top, STATUS_SUCCESS, TRUE);
+    pnp(top, IRP_MN_QUERY_STOP_DEVICE), pnp(top, IRP_MN_STOP_DEVICE);
+    start_later(top, STATUS_SUCCESS, FALSE);
+    WDM_CHECK(answers_reads(top));
+    take_away(top, bottom);
+}
+
+/* However long the drivers below take. */
+WDM_TEST(in_every_order_it_waits_for_the_drivers_below)
+{
+    static REQUEST r;
+    PDEVICE_OBJECT bottom, top = stack(&bottom);
+    below.HoldsStarts = TRUE;
+    pthread_t sender = send_until_held(&r, top, IRP_MJ_PNP, IRP_MN_START_DEVICE);
+    answer(STATUS_SUCCESS, 0);
+    wait_for(&r);
+    pthread_join(sender, NULL);
     take_away(top, bottom);
 }
 
@@ -58,7 +68,7 @@ WDM_TEST(it_starts_when_they_start_at_once)
 WDM_TEST(it_does_not_start_where_they_fail_later)
 {
     PDEVICE_OBJECT bottom, top = stack(&bottom);
-    start_later(top, STATUS_IO_DEVICE_ERROR);
+    start_later(top, STATUS_IO_DEVICE_ERROR, TRUE);
     WDM_CHECK(!answers_reads(top));
     take_away(top, bottom);
 }

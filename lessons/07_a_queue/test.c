@@ -1,5 +1,5 @@
 /* Three reads wait in the queue. One is cancelled, and two writes answer the others, the oldest one first. Then two reads
-   wait, and a write comes while the older one is cancelled; or its handle is closed. */
+   wait, and a write comes while the older one is cancelled; or their handle is closed. */
 #include "../lesson_test.h"
 
 static REQUEST a, b, c;
@@ -33,6 +33,16 @@ WDM_TEST(a_write_that_meets_a_cancel_answers_one_of_two_reads)
     pthread_join(canceller, NULL);
     WDM_CHECK(is_answered(&a) || is_answered(&b));
     WdmSend(device, IRP_MJ_WRITE, 0, 4);
+}
+
+WDM_TEST(a_closed_handle_has_no_reads_left)
+{
+    PDRIVER_OBJECT driver = WdmLoadByName(DRIVER);
+    PFILE_OBJECT file = WdmOpenFile(driver->DeviceObject);
+    send(&a, driver->DeviceObject, IRP_MJ_READ, 4), send(&b, driver->DeviceObject, IRP_MJ_READ, 4);
+    WdmCloseFile(file);
+    WDM_CHECK(has_status(&a, STATUS_CANCELLED) && has_status(&b, STATUS_CANCELLED));
+    unload(driver);
 }
 
 WDM_TEST(in_every_order_a_cancel_meets_the_end_of_its_handle)

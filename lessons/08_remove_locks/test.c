@@ -11,19 +11,6 @@ static void begin(void)
     below.HoldsReads = TRUE;
 }
 
-/* Whoever sends behind the removal has a reference to the device. */
-static void begin_with_a_reference(void)
-{
-    begin();
-    ObReferenceObject(top);
-}
-
-static void end_with_a_reference(void)
-{
-    ObDereferenceObject(top);
-    IoDeleteDevice(bottom);
-}
-
 static void *remove_it(void *context)
 {
     build(&removal, top, IRP_MJ_PNP, 0);
@@ -39,77 +26,72 @@ static void wait_a_moment(LONG milliseconds)
     KeDelayExecutionThread(KernelMode, FALSE, &time);
 }
 
-/* The device below ends what it holds once the removal has come to it. */
-static void *answer_at_the_removal(void *context)
+static void *answer_with_an_error(void *context)
 {
-    KeWaitForSingleObject(&below.GotRemove, Executive, KernelMode, FALSE, NULL);
-    wait_a_moment(20);
-    while (answer(STATUS_DELETE_PENDING, 0))
-        ;
+    answer(STATUS_DELETE_PENDING, 0);
     return context;
 }
 
+/* Whoever sends behind the removal has a reference to the device. */
 WDM_TEST(a_request_behind_the_removal_is_refused)
 {
-    begin_with_a_reference();
+    begin();
+    ObReferenceObject(top);
     remove_it(NULL);
     WDM_CHECK(!NT_SUCCESS(WdmSend(top, IRP_MJ_READ, 0, 4)));
     WDM_CHECK(!NT_SUCCESS(WdmSend(top, IRP_MJ_WRITE, 0, 4)));
     WDM_CHECK(below.NReads == 0);
-    end_with_a_reference();
+    ObDereferenceObject(top);
+    IoDeleteDevice(bottom);
 }
 
-WDM_TEST(the_removal_waits_for_a_read)
+/* The device below ends both reads once the removal has come to it. Nobody refers to the device when it goes. */
+WDM_TEST(in_every_order_the_removal_waits_for_two_reads)
 {
-    pthread_t remover, answerer;
+    pthread_t remover, other, senders[2];
     begin();
-    send(&a, top, IRP_MJ_READ, 4);
-    pthread_create(&answerer, NULL, answer_at_the_removal, NULL);
+    senders[0] = send_until_held(&a, top, IRP_MJ_READ, 0), senders[1] = send_until_held(&b, top, IRP_MJ_READ, 0);
     pthread_create(&remover, NULL, remove_it, NULL);
-    pthread_join(answerer, NULL);
-    pthread_join(remover, NULL);
-    WDM_CHECK(is_done(&a));
+    KeWaitForSingleObject(&below.GotRemove, Executive, KernelMode, FALSE, NULL);
+    pthread_create(&other, NULL, answer_with_an_error, NULL);
+    answer(STATUS_SUCCESS, 8);
+    pthread_join(other, NULL), pthread_join(remover, NULL);
+    pthread_join(senders[0], NULL), pthread_join(senders[1], NULL);
+    WDM_CHECK(is_done(&a) && is_done(&b));
     IoDeleteDevice(bottom);
 }
 
 /* The second read comes while the removal waits for the first. */
 WDM_TEST(a_read_comes_while_the_removal_waits)
 {
-    pthread_t remover;
+    pthread_t remover, senders[2];
     begin();
-    send(&a, top, IRP_MJ_READ, 4);
+    senders[0] = send_until_held(&a, top, IRP_MJ_READ, 0);
     pthread_create(&remover, NULL, remove_it, NULL);
     KeWaitForSingleObject(&below.GotRemove, Executive, KernelMode, FALSE, NULL);
     wait_a_moment(20);
-    send(&b, top, IRP_MJ_READ, 4);
+    senders[1] = send_until_held(&b, top, IRP_MJ_READ, 0);
     while (answer(STATUS_DELETE_PENDING, 0))
         ;
-    pthread_join(remover, NULL);
+    pthread_join(remover, NULL), pthread_join(senders[0], NULL), pthread_join(senders[1], NULL);
     WDM_CHECK(is_done(&a) && is_done(&b) && !NT_SUCCESS(b.Iosb.Status));
     IoDeleteDevice(bottom);
 }
 
-WDM_TEST(in_every_order_a_read_meets_the_removal)
+static void meets_the_removal(UCHAR major)
 {
     pthread_t remover;
-    begin_with_a_reference();
-    build(&a, top, IRP_MJ_READ, 4);
+    begin();
+    below.HoldsReads = FALSE;
+    ObReferenceObject(top);
+    build(&a, top, major, 4);
     pthread_create(&remover, NULL, remove_it, NULL);
     send_it(&a);
-    answer(STATUS_SUCCESS, 4);
     pthread_join(remover, NULL);
     WDM_CHECK(is_done(&a));
-    end_with_a_reference();
+    ObDereferenceObject(top);
+    IoDeleteDevice(bottom);
 }
 
-WDM_TEST(in_every_order_a_write_meets_the_removal)
-{
-    pthread_t remover;
-    begin_with_a_reference();
-    build(&a, top, IRP_MJ_WRITE, 4);
-    pthread_create(&remover, NULL, remove_it, NULL);
-    send_it(&a);
-    pthread_join(remover, NULL);
-    WDM_CHECK(is_done(&a));
-    end_with_a_reference();
-}
+WDM_TEST(in_every_order_a_read_meets_the_removal) { meets_the_removal(IRP_MJ_READ); }
+WDM_TEST(in_every_order_a_write_meets_the_removal) { meets_the_removal(IRP_MJ_WRITE); }

@@ -71,3 +71,19 @@ WDM_TEST(it_is_not_started_where_the_drivers_below_fail)
     WDM_CHECK(!answers_reads());
     take_away(top, bottom);
 }
+
+/* Two devices are asked at once. The other one was never started. */
+WDM_TEST(each_device_has_its_own_state)
+{
+    PDEVICE_OBJECT other = NULL;
+    top = stack(&bottom);
+    tell(IRP_MN_START_DEVICE);
+    IoCreateDevice(bottom->DriverObject, 0, NULL, FILE_DEVICE_UNKNOWN, 0, FALSE, &other);
+    other->Flags &= ~(ULONG)DO_DEVICE_INITIALIZING;
+    WdmAddDevice(top->DriverObject, other);
+    tell(IRP_MN_QUERY_REMOVE_DEVICE);
+    pnp(IoGetAttachedDevice(other), IRP_MN_QUERY_REMOVE_DEVICE);
+    WDM_CHECK(tell(IRP_MN_CANCEL_REMOVE_DEVICE) && answers_reads());
+    take_away(IoGetAttachedDevice(other), other);
+    take_away(top, bottom);
+}

@@ -99,6 +99,8 @@ HINTS = [
          "on each way?", '"System Worker Threads"', "Call IoFreeWorkItem once for each IoAllocateWorkItem."),
     Hint("FAULT (LeftBehind|PoolLeak)", "The driver is unloaded, and something of it is still there. Who should have freed it?",
          '"Writing an Unload Routine"', "Free what you allocated on each way that the packet can take."),
+    Hint("FAULT QueuedTwice.*is freed", "Who needs the work item last, and when is that over?", '"System Worker Threads"',
+         "Free it in its routine."),
     Hint("FAULT QueuedTwice", "A work item serves one packet at a time. How many reads can be under way?",
          '"System Worker Threads"', "Allocate a work item for each read, and free it in its routine."),
     Hint("FAULT UsedInFreedMemory.*no work item", "Memory may be short. What do you have then instead of a work item, and which "
@@ -106,7 +108,7 @@ HINTS = [
          "STATUS_INSUFFICIENT_RESOURCES."),
     Hint("FAULT (WrongTag|NotPool|FreedTwice)", "Which line allocated this memory, how, and how often is it freed?",
          '"ExFreePoolWithTag"', "Free it once, with the tag and the pointer of its allocation."),
-    Hint("FAULT UsedInFreedMemory", "What you use there is gone already. Who freed it, and who still needed it?",
+    Hint("FAULT Used(InFreedMemory|AfterFree)", "What you use there is gone already. Who freed it, and who still needed it?",
          '"Managing Memory for Drivers"', "Free it where nobody can use it any more."),
     Hint("FAULT (PnpStatusChanged|RemoveFailed)", "Who decides what becomes of this request, and which status may you change?",
          '"Handling PnP IRPs"', "Pass requests that you don't handle down with their status unchanged."),
@@ -134,13 +136,15 @@ HINTS = [
     Hint("illegal", "No line of yours is wrong by itself, and still no I/O manager gives these answers. Which call comes too "
          "early or too late?", "docs/RULES.md", "Ask `bin/irp why` of the transcript."),
 ]
-# The same of one lesson, before those, whatever line has it.
+# The same of one lesson, before those.
 HINTS_OF = {
     2: [Hint(r"FAULT Lost", "Who has the packet when the dispatch returns: you, or the work item? What does the dispatch return "
              "then?", PENDING, "If the work item has it: mark, queue, return STATUS_PENDING. If not: complete it."),
         Hint(r"FAULT Check.*Information", "What does the caller learn from IoStatus.Information?", COMPLETE,
              "Set Information to the length that was read.")],
-    3: [Hint(r"FAULT Check.*Bytes", "Which reads did your routine see, and what does Information say in each?", ROUTINES,
+    3: [Hint(r"FAULT Check.*Bytes == 3 \+ 5", "Two reads come back at once. What may happen between your look at Bytes and your change "
+             "of it?", '"Introduction to Spin Locks"', "Add by InterlockedExchangeAdd, or under a spin lock."),
+        Hint(r"FAULT Check.*Bytes", "Which reads did your routine see, and what does Information say in each?", ROUTINES,
              "Add Irp->IoStatus.Information in the completion routine, on success and on error.")],
     4: [Hint(r"FAULT Check.*LastLength", "Who knows how long the answer is, and from when on? When does your line run?", OWNER,
              "Set LastLength from Irp->IoStatus.Information in a completion routine, or after a wait.")],
@@ -163,15 +167,17 @@ HINTS_OF = {
                     "write answer then?", CANCEL, "Go on to the next entry where IoSetCancelRoutine returns NULL."),
         Hint(r"FAULT Check.*is_answered", "Which of the waiting reads did the write answer, and which one is the oldest?",
              '"Cancel-Safe IRP Queues"', "Insert at the tail, and take one from the head.")],
-    8: [Hint(r"FAULT Check.*NT_SUCCESS", "The removal has begun. Who may still send something down, and who told your driver that "
+    8: [Hint(r"yours is detached", "Who may still send something to the device below when you detach from it, and until when?",
+             LOCKS, "Detach, and then delete, after IoReleaseRemoveLockAndWait."),
+        Hint(r"FAULT Check.*NT_SUCCESS", "The removal has begun. Who may still send something down, and who told your driver that "
              "it can't?", LOCKS, "Acquire the lock first. If that fails, complete the request with the status that it gave."),
         Hint(r"FAULT Check.*NReads", "This read came behind the removal, and the device below got it. Which call would have told "
              "you?", LOCKS, "Don't send where IoAcquireRemoveLock fails."),
         Hint(r"FAULT Hang.*(ReleaseRemoveLockAndWait|AndWait)", "The removal waits for a read that is below. What makes the device "
              "below give it back, and has it heard of the removal?", LOCKS,
              "Pass IRP_MN_REMOVE_DEVICE down first, then call IoReleaseRemoveLockAndWait.")],
-    11: [Hint(r"FAULT (UsedInFreedMemory|LockInFreedMemory|WrittenAfterFree|FreedTwice)", "Who used the file's counter after it "
-              "was freed, and which request says that nobody will?", '"DispatchClose Routines"',
+    11: [Hint(r"FAULT (UsedInFreedMemory|UsedAfterFree|LockInFreedMemory|WrittenAfterFree|FreedTwice)", "Who used the "
+              "file's counter after it was freed, and which request says that nobody will?", '"DispatchClose Routines"',
               "Free it in the dispatch for IRP_MJ_CLOSE."),
          Hint(r"FAULT Check.*reads", "Whose reads does the counter count, and from when until when is it there?",
               '"DispatchCreate, DispatchClose, and DispatchCreateClose Routines"', "Keep a counter for each FILE_OBJECT, from "
@@ -195,10 +201,11 @@ HINTS_OF = {
               "you write, and set Information to what you wrote.")],
 }
 HINTS_OF[9] = HINTS_OF[6]
+HINTS_OF[15] = [Hint(r"^line \d+, column \d+: ", "This line is no step that can be made. Which names have the lines above it given?",
+                     "docs/WORDS.md", "Let a step name only what stands above it, on the same seat.")]
 
 
 def hint_of(number, said):
     """Returns the hint for the first fault, from which the others may follow, or None."""
-    own = [it for it in HINTS_OF.get(number, []) if re.search(it.text, said)]
-    found = (it for line in said.splitlines() for it in HINTS if re.search(it.text, line))
-    return own[0] if own else next(found, None)
+    known = HINTS_OF.get(number, []) + HINTS
+    return next((it for line in said.splitlines() for it in known if re.search(it.text, line)), None)

@@ -117,6 +117,7 @@ class Judge:
         self.number, self.path, self.room = number, path, room
         self.test = f"{LESSONS}/{plans.LESSONS[number]}/test.c"
         self.never, self.was_stopped = None, False
+        self.plain = plans.PLAIN.get(number, ())
 
     def run(self, is_test, *flags):
         """Makes a run. Returns its exit status and what it told, and keeps which functions never ran."""
@@ -125,7 +126,8 @@ class Judge:
         found = f"{self.room}/found"
         if os.path.exists(found):
             os.remove(found)
-        more = [] if flags[:1] == ("--every-order",) else ["--json", found, *(["--coverage"] if is_test and not flags else [])]
+        coverage = ["--coverage"] if is_test and flags == self.plain else []
+        more = [] if flags[:1] == ("--every-order",) else ["--json", found, *coverage]
         status, said = ended([f"{TOP}/drivers/run", *flags, *more, *its[0], self.path, *its[1]])
         if status == 2 and not re.search("FAULT|STOPPED", said):
             print(f"irp lesson: {self.path} can't be run:\n{said.rstrip()}", file=sys.stderr)
@@ -151,6 +153,8 @@ class Judge:
             return f"the test reads {name}: leave its declaration as it is."
         if self.number == 2 and "IoQueueWorkItem" not in code:
             return "no work item answers the read any more."
+        if self.number == 8 and re.search(r"(?ms)\bIoDetachDevice\s*\((?:(?!^\}).)*\bIoReleaseRemoveLockAndWait\s*\(", code):
+            return "yours is detached while who has the lock may still send to the device below."
         if self.number == 12 and "PoRequestPowerIrp" not in code:
             return "nobody asks for the device's packet any more."
         if self.number == 14 and probes_outside(code):
@@ -162,10 +166,10 @@ class Judge:
         flaw = self.overlooked()
         if flaw:
             return False, f"Something is missing: {flaw}"
-        status, said = self.run(True)
+        status, said = self.run(True, *self.plain)
         if status not in (0, STOPPED):
             return False, telling.told(said)
-        status, said = self.run(False, "--transcript", f"{self.room}/transcript")
+        status, said = self.run(False, *self.plain, "--transcript", f"{self.room}/transcript")
         if status not in (0, STOPPED):
             return False, telling.told(said)
         what = lacking(self.number, f"{self.room}/transcript")

@@ -35,21 +35,26 @@ CANCELS_MEET = tuple(every_order(f"in_every_order_{it}") for it in
 # Behind the lesson's tests and the host's own, plainly.
 MORE_RUNS = {
     2: (Run(True, ("--low-memory", "--test", "a_read_meets_its_work_item")), every_order("a_read_meets_its_work_item")),
+    3: (every_order("in_every_order_two_reads_come_back", 1),),
+    5: (every_order("in_every_order_it_waits_for_the_drivers_below", 1),),
     6: CANCELS_MEET, 9: CANCELS_MEET,
     7: tuple(every_order(it) for it in ("a_write_that_meets_a_cancel_answers_one_of_two_reads",
                                         "in_every_order_a_cancel_meets_the_end_of_its_handle")),
+    8: (*(every_order(f"in_every_order_a_{it}_meets_the_removal", 2) for it in ("read", "write")),
+        every_order("in_every_order_the_removal_waits_for_two_reads", 1)),
     11: (Run(True, ("--low-memory", "--test", "each_handle_has_its_own_count")),),
     12: (Run(True, ("--routines-high",)), Run(False, ("--routines-high",))),
-    8: tuple(every_order(f"in_every_order_a_{it}_meets_the_removal", 2) for it in ("read", "write")),
 }
+# Flags of the plain runs: memory is told where it is used after its end, or behind it.
+PLAIN = {it: ("--page-ends",) for it in (2, 11, 14)}
 # What the record of a plain run of the host's own test has to show, as text of its lines, and what is told where it doesn't: a
 # driver that does nothing of what the lesson is about has no fault either. Each text of one of the ways has to be there, and
 # none behind a "!".
 READ, START = r"\d+,\d+,\d+,3,", r"\d+,\d+,\d+,27,\d+,0,"
 # Below a filter the host's own devices finish and hold, which doesn't count as the driver's.
 NO_FILTER = r'!"shown":\[[^]]*,true\]'
-FINISHES = ("a device that completes CREATE, READ and WRITE in its dispatch and returns STATUS_SUCCESS",
-            [NO_FILTER, *(rf'"plan":\["finish",0,\d+\],"shown":\[0,\d+,\d+,{major},' for major in (0, 3, 4))])
+FINISHES = ("a device that completes CREATE, READ and WRITE",
+            [NO_FILTER, *(rf'"plan":\["(?:finish",0,\d+|hold",null)\],"shown":\[0,\d+,\d+,{major},' for major in (0, 3, 4))])
 HOLDS = ("a read that is kept and completed later", [NO_FILTER, rf'"plan":\["hold",(null|\d+)\],"shown":\[{READ}'])
 CANCELS = ("a read that is kept with a cancel routine", [NO_FILTER, rf'"plan":\["hold",\d+\],"shown":\[{READ}'])
 COMPLETES = ("a read that is kept, and then completed with STATUS_SUCCESS",
@@ -57,13 +62,12 @@ COMPLETES = ("a read that is kept, and then completed with STATUS_SUCCESS",
 WATCH = rf'"plan":\["forward(_pend)?",\[.*?"shown":\[{READ}'
 # A routine of the driver's own, asked about a read that succeeded and that nobody cancelled.
 ASKED = rf'"completion":\["\w+",\d+\],"shown":\[{READ}\d+,\d+,0,\d+,\w+,false,'
-WATCHES = ("a read that succeeds, and goes on up past your completion routine", [WATCH, ASKED])
 # A dispatch that waits for the drivers below is recorded as one that finishes; the host sends a second packet for it.
 BACK = [rf'"plan":\["finish",\d+,\d+\],"shown":\[{READ}[^]]*,true\]',
         r'"by":"o","do":"call_driver","irp":\[\d+,\d+\],"target":0\b']
 COMES_BACK = ("a read that succeeds, and comes back to your driver", [WATCH, ASKED], BACK)
 ACQUIRES = ("a read under a remove lock", [r'"do":"acquire"'])
-NEEDS = {1: (FINISHES,), 2: (HOLDS, COMPLETES), 3: (WATCHES,), 4: (COMES_BACK,), 6: (CANCELS, COMPLETES),
+NEEDS = {1: (FINISHES,), 2: (HOLDS, COMPLETES), 3: (COMES_BACK,), 4: (COMES_BACK,), 6: (CANCELS, COMPLETES),
          7: (CANCELS, COMPLETES), 8: (COMES_BACK, ACQUIRES), 9: (CANCELS, COMPLETES)}
 # Variables that a lesson's test reads: they stay as they are.
 READ_BY_TESTS = {3: "Bytes", 4: "LastLength"}

@@ -12,6 +12,8 @@ import texts
 
 TOP = telling.TOP
 ENTRY = re.compile(r'<li id="e(\d+)">(.*?)\n</li>', re.DOTALL)
+# What the manager would have answered: that is the lesson's answer.
+WHY = re.compile(r'<div class="why".*</div>(?=\s*(?:<p class="because">|$))', re.DOTALL)
 CALL = re.compile(r'<span class="call">(.*?)</span>(?:\s*<span class="(?:gives|no)">(.*?)</span>)?', re.DOTALL)
 
 
@@ -20,7 +22,7 @@ class Moment:
 
     def __init__(self, number, text):
         self.number = int(number)
-        text = re.sub(r'^<a class="n".*?</a>', "", text)
+        text = WHY.sub('<p class="no">The manager can’t have made this entry.</p>', re.sub(r'^<a class="n".*?</a>', "", text))
         self.call = " ".join(it for it in (CALL.search(text) or [None, text, ""]).groups("") if it) if CALL.search(text) else text
         self.picture = text
 

@@ -32,6 +32,7 @@ body { max-width: none; margin: 0; padding: 0; font-size: 1rem; }
 .moment svg { max-width: none; max-height: 62vh; }
 .moment .move { grid-template-columns: minmax(0, 3fr) minmax(0, 2fr); }
 .moment p, .moment .steps { font-size: .85rem; margin: .2rem 0; }
+.moment { transform-origin: top left; }
 .moment a { color: inherit; }
 @page { size: 1024px 768px; margin: 0; }
 @media print { html { font-size: 21px; } .slide { height: 768px; break-after: page; break-inside: avoid; } }
@@ -45,6 +46,18 @@ addEventListener('keydown', it => {
   const now = slides.findIndex(one => one.getBoundingClientRect().bottom > innerHeight / 2);
   slides[Math.min(Math.max(now + steps[it.key], 0), slides.length - 1)].scrollIntoView();
 });
+// A picture that is too large for its slide loses the calls before it, and is made smaller.
+function fit() {
+  for (const it of document.querySelectorAll('.moment')) {
+    const calls = it.parentElement.querySelector('.calls'), end = it.parentElement.querySelector('footer').getBoundingClientRect().top;
+    const room = () => (end - it.getBoundingClientRect().top) / it.getBoundingClientRect().height;
+    it.style.transform = calls.style.display = '';
+    if (room() < 1) calls.style.display = 'none';
+    if (room() < 1) it.style.transform = `scale(${room()})`;
+  }
+}
+addEventListener('load', fit);
+addEventListener('resize', fit);
 """
 
 
