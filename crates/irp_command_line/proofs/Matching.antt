@@ -103,3 +103,18 @@ module _ {Found Asked : Type 0} (ByFault : ErrorKind → Asked → Type 0) (ByFo
       with_kind : HasKind (fault_of line words) error → (asked ≡ none) ⊎ AsksFor ByFault ByFound (fault_of line words) found asked
       with_kind (inl out) = inl (memory out)
       with_kind (inr among) = inr (faulted_by (fault_of line words) (kind_of error) among by)
+
+module _ {Asked : Type 0} (ByFault : ErrorKind → Asked → Type 0) (ByRows : List ℕ → List Row → Asked → Type 0)
+    (other none asked : Asked) (line app : App) (words : List (List ℕ)) where
+  -- what words ask for in which clap finds no fault, by the subcommand that it finds
+  pub matched_by_subcommand : (matches : ArgMatches) → is_simple line ≡ true → is_simple_and_free line ≡ true → app ≡ line
+      → HasMatchesOf app words matches → (is_simple_and_free app ≡ true → fault_of app words ≡ [])
+      → ((name : List ℕ) (rows : List Row) → subcommand_name_of matches ≡ Some name
+      → option_map (λ (found : List ℕ × List Row). found.1) (subcommand_rows_of matches) ≡ Some rows → ByRows name rows asked)
+      → (subcommand_name_of matches ≡ None → asked ≡ other)
+      → (asked ≡ none) ⊎ AsksFor ByFault (OfSubcommand ByRows other) (fault_of line words) (subcommand_of line words) asked
+  matched_by_subcommand matches simple free app_is has faultless by_rows by_none =
+      let subcommand = subcommand_is line app words matches simple app_is has in
+      inr
+      (matched ByFault (OfSubcommand ByRows other) line app words (subcommand_of line words) asked free app_is faultless
+      (of_subcommand ByRows other asked matches (subcommand_of line words) subcommand by_rows by_none))

@@ -1,7 +1,10 @@
 mod CommandLine
 mod Grouping
+mod Naming
+mod Numbering
 mod Pairing
 mod Programs
+mod Putting
 mod Ranking
 mod Righting
 mod Showing

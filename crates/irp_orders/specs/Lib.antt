@@ -1,7 +1,9 @@
 pub mod Alike
 pub mod CommandLine
 pub mod Conditions
+pub mod Counts
 pub mod Ending
+pub mod Ends
 pub mod Exploring
 pub mod Facts
 pub mod Founds
@@ -12,3 +14,5 @@ pub mod Program
 pub mod Right
 pub mod Rows
 pub mod Such
+pub mod Table
+pub mod Wrongs

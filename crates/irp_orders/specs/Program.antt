@@ -16,7 +16,7 @@ use Rattle.irp_orders.specs.Conditions.{Says, SaysNothing}
 use Rattle.irp_orders.specs.Exploring.{IsUnexplored, MeetsBound, tells}
 use Rattle.irp_orders.specs.Facts.{Meets}
 use Rattle.irp_orders.specs.Right.{IsRight, IsSetup}
-use Rattle.irp_orders.specs.Rows.{AreRowsOf}
+use Rattle.irp_orders.specs.Rows.{AreRowsOf, IsSomeStuck}
 use Rattle.irp_orders.specs.declared.asked.Order.{Order}
 use Rattle.irp_orders.specs.declared.asked.Task.{Task}
 use Rattle.irp_orders.specs.declared.asked.Task.TheVariants.{Never, Right, Show, Table}
@@ -50,10 +50,10 @@ IsUnread script tells text (RefusedCondition fault) = SaysNothing script tells t
 IsUnread script tells text NoMemory = ⊤
 IsUnread script tells text other = ⊥
 
--- why nothing is told of a condition: it isn't read, or the order that breaks it isn't made again
-abbrev pub IsUnjudged : ScriptParts → Bool → List ℕ → Ending → Type 0
-IsUnjudged script tells text NoOrder = ⊤
-IsUnjudged script tells text other = IsUnread script tells text other
+-- why nothing is told of a condition and these outcomes: it isn't read, or the order of one of them can't be made again
+abbrev pub IsUnjudged : ScriptParts → Bool → List ℕ → List Found → Ending → Type 0
+IsUnjudged script tells text founds NoOrder = IsSomeStuck script founds
+IsUnjudged script tells text founds other = IsUnread script tells text other
 
 -- these are the outcomes of a script's orders, and a text says this condition of the script
 pub record IsAsked (script : ScriptParts) (order : Order) (text : List ℕ) (outcomes : List Outcome) (condition : Condition)
@@ -75,13 +75,14 @@ IsBroken script order text =
     × Meets script.steps condition outcome.end
 
 -- how the program ends that was asked whether a condition never holds: Done, with status 0, only where no order's end
--- meets it; Broken, with 2, only where some does; Met, with 3, only where the orders meet this bound
+-- meets it; Broken, with 2, only where some does; Met, with 3, only where the orders meet this bound. It never ends with
+-- NoOrder: each outcome's order can be made again
 abbrev pub Judges : ScriptParts → Order → List ℕ → Ending → Type 0
 Judges script order text Done = IsKept script order text
 Judges script order text Broken = IsBroken script order text
 Judges script order text (Met bound) = MeetsBound script order bound
 Judges script order text Failed = ⊤
-Judges script order text other = IsUnjudged script (tells order) text other
+Judges script order text other = IsUnread script (tells order) text other
 
 -- ---- what is right
 
@@ -106,14 +107,18 @@ IsOneWrong script =
 abbrev pub with_replies : Order → Order
 with_replies order = record order { by_ends = false }
 
--- why it isn't told whether outcomes are right: memory ran out, or an order isn't made again
+-- why it isn't told whether orders end right: memory ran out
 abbrev pub IsUnexamined : Ending → Type 0
 IsUnexamined NoMemory = ⊤
-IsUnexamined NoOrder = ⊤
 IsUnexamined other = ⊥
 
+-- the same of these outcomes, or the order of one of them can't be made again
+abbrev pub IsUntold : ScriptParts → List Found → Ending → Type 0
+IsUntold script founds NoOrder = IsSomeStuck script founds
+IsUntold script founds other = IsUnexamined other
+
 -- how the program ends that was asked whether every order ends right: Done, with status 0, only where each does; Broken,
--- with 2, only where one doesn't; Met, with 3, only where the orders meet this bound
+-- with 2, only where one doesn't; Met, with 3, only where the orders meet this bound. It never ends with NoOrder
 abbrev pub Examines : ScriptParts → Order → Ending → Type 0
 Examines script order Done = AreAllRight script
 Examines script order Broken = IsOneWrong script

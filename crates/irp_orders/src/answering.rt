@@ -45,8 +45,9 @@ use std::io::Read;
 ///
 /// # Errors
 ///
-/// `RefusedCondition` where the text says no condition; `NoMemory` where memory ran out; `NoOrder` where an order can't
-/// be made again.
+/// `RefusedCondition` where the text says no condition; `NoMemory` where memory ran out; `NoOrder` where the order of
+/// an outcome can't be made again.
+#[tactic(auto, using(crate::proofs::Showing::unmade_unjudged))]
 fn judge(
     alloc: Global,
     script: &Script,
@@ -56,7 +57,7 @@ fn judge(
 ) -> Result<(Vec<u8>, Ending), Ending>
     ensures told { IfOk result (λ told.
         IsTold script.now knows_replies text.now founds.now told.1) }
-    ensures unjudged { IfErr result (IsUnjudged script.now knows_replies text.now) }
+    ensures unjudged { IfErr result (IsUnjudged script.now knows_replies text.now founds.now) }
 {
     let condition = condition_of(alloc, script, knows_replies, text)?;
     match answered(alloc, script, founds, Question::Never(&condition)) {
@@ -69,7 +70,7 @@ fn judge(
 ///
 /// # Errors
 ///
-/// Those of `judge`, and `Met` where a bound is met.
+/// Those of `judge` but `NoOrder`, and `Met` where a bound is met.
 fn explore_and_judge(
     alloc: Global,
     script: &Script,
@@ -79,6 +80,7 @@ fn explore_and_judge(
     ensures told { IfOk result (λ told. Judges script.now order.now text.now told.1) }
     ensures untold { IfErr result (Judges script.now order.now text.now) }
 {
+    paths_can_be_made();
     match founds_of(alloc, script, order) {
         Ok(founds) => judge(alloc, script, founds.as_slice(), !order.by_ends, text),
         Err(ending) => Err(ending),

@@ -2,6 +2,7 @@
 
 ghost use Rattle.std.specs.Prelude.{◌≡◌, IfOk, map, string_bytes};
 ghost use Rattle.irp_orders.specs.Lines as spec;
+ghost use Rattle.irp_orders.specs.Rows.{all_orders};
 
 use crate::differing::{PacketFacts, drivers_differ, packet_facts};
 use crate::found::Found;
@@ -87,7 +88,9 @@ pub struct Columns<'a> {
 }
 
 /// How many orders lead to these outcomes; 2^128 - 1 where there are more.
-pub fn orders_of(founds: &[Found]) -> u128 {
+pub fn orders_of(founds: &[Found]) -> u128
+    ensures { result ≡ all_orders 0 founds.now }
+{
     let mut orders = 0u128;
     for found in founds {
         orders = orders.saturating_add(found.orders);
@@ -105,6 +108,7 @@ impl<'a> Columns<'a> {
         ensures script { IfOk result (λ columns. columns.script.now ≡ script.now) }
         ensures labels { IfOk result (λ columns.
             map string_bytes columns.labels.now ≡ script.now.labels) }
+        ensures orders { IfOk result (λ columns. columns.orders ≡ all_orders 0 founds.now) }
     {
         let parts = script.parts();
         Ok(Columns {

@@ -1,7 +1,7 @@
 //! Conditions on what the orders of a script leave.
 
-ghost use Rattle.std.specs.Prelude.{◌≡◌, ◌≤◌, ◌^◌, All, IfErr, IfOk, IfSome, None, length};
-ghost use Rattle.irp_orders.specs.Conditions.{IsRefusalNamed, IsScopeOf, IsStatusNamed, Says};
+ghost use Rattle.std.specs.Prelude.{◌≡◌, ◌≤◌, ◌^◌, IfErr, IfOk, IfSome, None, length, map};
+ghost use Rattle.irp_orders.specs.Conditions.{IsScopeOf, Says, refusal_words, status_words, word_of};
 ghost use Rattle.irp_orders.specs.Program.{IsUnread};
 
 use crate::ending::Ending;
@@ -12,8 +12,8 @@ use std::alloc::Global;
 
 /// What conditions on a script may speak of, by these names of values. None where it has 2^32 steps or more.
 pub fn scope_of<'a>(script: &'a Script, names: &'a Names, knows_replies: bool) -> Option<Scope<'a>>
-    requires statuses { All IsStatusNamed names.now.statuses.items }
-    requires refusals { All IsRefusalNamed names.now.refusals.items }
+    requires statuses { map word_of names.now.statuses.items ≡ status_words }
+    requires refusals { map word_of names.now.refusals.items ≡ refusal_words }
     ensures scope { IfSome result (IsScopeOf script.now knows_replies) }
     ensures none { result ≡ None → 2 ^ 32 ≤ length script.now.steps }
 {

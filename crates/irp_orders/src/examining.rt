@@ -4,14 +4,14 @@ ghost use Rattle.std.specs.Prelude.{◌≡◌, [], IfErr, IfOk};
 ghost use Rattle.irp_machine.specs.Replays.{IsReplay};
 ghost use Rattle.irp_orders.specs.Judging.{IsExamined};
 ghost use Rattle.irp_orders.specs.Program as spec;
-ghost use Rattle.irp_orders.specs.Program.{Examines, IsUnexamined};
+ghost use Rattle.irp_orders.specs.Program.{Examines, IsUnexamined, IsUntold};
 
 use crate::asked::Order;
 use crate::ending::Ending;
 use crate::exploring::founds_of;
 use crate::found::Found;
 use crate::judging::{Question, answered};
-use irp_machine::replay;
+use irp_machine::{paths_can_be_made, replay};
 use irp_script_reader::Script;
 use irp_transcript::Transcript;
 use std::alloc::Global;
@@ -20,7 +20,7 @@ use std::alloc::Global;
 ///
 /// # Errors
 ///
-/// `NoMemory` where memory ran out; `NoOrder` where the setup can't be made again, which never comes.
+/// `NoMemory` where memory ran out.
 fn setup_of(alloc: Global, script: &Script) -> Result<Transcript, Ending>
     ensures setup { IfOk result (λ transcript. IsReplay script.now [] transcript) }
     ensures unmade { IfErr result IsUnexamined }
@@ -35,10 +35,11 @@ fn setup_of(alloc: Global, script: &Script) -> Result<Transcript, Ending>
 ///
 /// # Errors
 ///
-/// `NoMemory` where memory ran out; `NoOrder` where an order can't be made again.
+/// `NoMemory` where memory ran out; `NoOrder` where the order of an outcome can't be made again.
+#[tactic(auto, using(crate::proofs::Showing::unmade_untold, crate::proofs::Showing::unexamined_untold))]
 fn examined(alloc: Global, script: &Script, founds: &[Found]) -> Result<(Vec<u8>, Ending), Ending>
     ensures told { IfOk result (λ told. IsExamined script.now founds.now told.1) }
-    ensures untold { IfErr result IsUnexamined }
+    ensures untold { IfErr result (IsUntold script.now founds.now) }
 {
     let setup = setup_of(alloc, script)?;
     match answered(alloc, script, founds, Question::Right(setup.entries())) {
@@ -61,7 +62,7 @@ fn with_replies<'a>(order: &Order<'a>) -> Order<'a>
 ///
 /// # Errors
 ///
-/// `Met` where a bound is met; `NoMemory` where memory ran out; `NoOrder` where an order can't be made again.
+/// `Met` where a bound is met; `NoMemory` where memory ran out.
 pub fn explore_and_examine(
     alloc: Global,
     script: &Script,
@@ -71,6 +72,7 @@ pub fn explore_and_examine(
     ensures untold { IfErr result (Examines script.now order.now) }
 {
     let order = with_replies(order);
+    paths_can_be_made();
     match founds_of(alloc, script, &order) {
         Ok(founds) => examined(alloc, script, founds.as_slice()),
         Err(ending) => Err(ending),

@@ -1,7 +1,21 @@
 //! Whether a condition holds in some order, or some order doesn't end right, and which order shows it.
 
-ghost use Rattle.std.specs.Prelude.{◌≡◌, ◌<◌, ◌≤◌, ◌↔◌, IfOk, IfSome, IsTrue, false, length, true};
+ghost use Rattle.std.specs.Prelude.{
+  ◌≡◌,
+  ◌<◌,
+  ◌≤◌,
+  ◌↔◌,
+  IfErr,
+  IfOk,
+  IfSome,
+  IsTrue,
+  false,
+  length,
+  true,
+};
 ghost use Rattle.std.specs.Option.{IsSomeAnd};
+ghost use Rattle.irp_machine.specs.Replays.{StopsShort};
+ghost use Rattle.irp_machine.specs.declared.limits.NotMade.TheVariants.{NoStep};
 ghost use Rattle.irp_orders.specs.Judging.{
   AreMarks,
   Breaks,
@@ -12,6 +26,7 @@ ghost use Rattle.irp_orders.specs.Judging.{
   steps_of,
   verdict_ending,
 };
+ghost use Rattle.irp_orders.specs.Rows.{IsSomeStuck};
 
 use crate::columns::{Columns, orders_of};
 use crate::ending::Ending;
@@ -187,7 +202,10 @@ fn put_shown(
     columns: &Columns<'_>,
     number: usize,
     found: &Found,
-) -> Result<(), NotMade> {
+) -> Result<(), NotMade>
+    ensures no_step { IfErr result (λ refusal. refusal ≡ NoStep
+        → StopsShort columns.now.script.now found.now.outcome.path.items) }
+{
     let path = found.outcome.path.as_slice();
     put_head(out, columns.orders, number, found);
     put_in_order(alloc, out, columns, path)?;
@@ -243,7 +261,10 @@ fn with_shown(
     question: Question<'_>,
     place: usize,
     found: &Found,
-) -> Result<Vec<u8>, NotMade> {
+) -> Result<Vec<u8>, NotMade>
+    ensures no_step { IfErr result (λ refusal. refusal ≡ NoStep
+        → StopsShort columns.now.script.now found.now.outcome.path.items) }
+{
     put_shown(alloc, &mut out, columns, place.saturating_add(1), found)?;
     match question {
         Question::Never(_) => Ok(out.finish()?.into_bytes()),
@@ -268,7 +289,10 @@ fn told_broken(
     question: Question<'_>,
     judged: &Judgment,
     place: usize,
-) -> Result<Vec<u8>, NotMade> {
+) -> Result<Vec<u8>, NotMade>
+    ensures no_step { IfErr result (λ refusal. refusal ≡ NoStep
+        → IsSomeStuck columns.now.script.now founds.now) }
+{
     let mut out = Sink::new(alloc);
     put_counts(&mut out, founds, question, judged.marks.as_slice());
     match founds.get(place) {
@@ -289,7 +313,9 @@ fn told(
     question: Question<'_>,
     judged: &Judgment,
 ) -> Result<(Vec<u8>, Ending), NotMade>
-    ensures { IfOk result (λ told. told.1 ≡ verdict_ending judged.now.shown) }
+    ensures ends { IfOk result (λ told. told.1 ≡ verdict_ending judged.now.shown) }
+    ensures no_step { IfErr result (λ refusal. refusal ≡ NoStep
+        → IsSomeStuck columns.now.script.now founds.now) }
 {
     match judged.shown {
         None => Ok((told_kept(alloc, founds, question)?, Ending::Done)),
@@ -305,14 +331,17 @@ fn told(
 /// # Errors
 ///
 /// `NoStep` where the order that is shown can't be made again; `Memory` where memory ran out.
+#[tactic(auto, using(crate::proofs::Showing::stuck_of))]
 pub fn answered(
     alloc: Global,
     script: &Script,
     founds: &[Found],
     question: Question<'_>,
 ) -> Result<(Vec<u8>, Ending), NotMade>
-    ensures { IfOk result (λ told.
+    ensures judged { IfOk result (λ told.
         IsJudged (Breaks script.now.steps question.entry) founds.now told.1) }
+    ensures no_step { IfErr result (λ refusal. refusal ≡ NoStep
+        → IsSomeStuck script.now founds.now) }
 {
     let judged = judged(alloc, script.parts().steps.as_slice(), founds, question)?;
     let columns = Columns::of(alloc, script, founds)?;

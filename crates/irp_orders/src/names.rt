@@ -1,12 +1,12 @@
 //! The names of statuses and refusals, for conditions that are read.
 
-ghost use Rattle.std.specs.Prelude.{All, IfOk};
-ghost use Rattle.irp_orders.specs.Conditions.{IsRefusalNamed, IsStatusNamed};
+ghost use Rattle.std.specs.Prelude.{◌≡◌, IfOk, map};
+ghost use Rattle.irp_orders.specs.Conditions.{refusal_words, status_words, word_of};
 
 use irp_condition::{Named, Value};
 use irp_forms::HasName;
-use irp_names::{refusal_name, status_name};
-use irp_types::{Refusal, Status};
+use irp_names::refusal_name;
+use irp_types::Refusal;
 use std::alloc::{AllocError, Global};
 
 /// The names that values have in conditions.
@@ -18,24 +18,24 @@ pub struct Names {
 
 /// The names of the statuses, each with its number.
 fn status_names(alloc: Global) -> Result<Vec<Named>, AllocError>
-    ensures { IfOk result (λ names. All IsStatusNamed names.items) }
+    ensures { IfOk result (λ names. map word_of names.items ≡ status_words) }
 {
     let mut names = Vec::new(alloc);
-    for row in irp_names::status_names() {
-        if let Some(name) = status_name(Status(row.0)) {
-            let value = Value::Number(row.0 as u64);
-            names.push(Named { name, value })?;
-        }
+    let rows = irp_names::status_names();
+    for row in rows {
+        let (name, value) = (row.1, Value::Number(row.0 as u64));
+        names.push(Named { name, value })?;
     }
     Ok(names)
 }
 
 /// The names of the refusals.
 fn refusal_names(alloc: Global) -> Result<Vec<Named>, AllocError>
-    ensures { IfOk result (λ names. All IsRefusalNamed names.items) }
+    ensures { IfOk result (λ names. map word_of names.items ≡ refusal_words) }
 {
     let mut names = Vec::new(alloc);
-    for refusal in Refusal::all() {
+    let refusals = Refusal::all();
+    for refusal in refusals {
         let (name, value) = (refusal_name(*refusal), Value::Refused(*refusal));
         names.push(Named { name, value })?;
     }
@@ -44,8 +44,8 @@ fn refusal_names(alloc: Global) -> Result<Vec<Named>, AllocError>
 
 /// The names of all statuses and refusals that have one. The one error is want of memory.
 pub fn value_names(alloc: Global) -> Result<Names, AllocError>
-    ensures statuses { IfOk result (λ names. All IsStatusNamed names.statuses.items) }
-    ensures refusals { IfOk result (λ names. All IsRefusalNamed names.refusals.items) }
+    ensures statuses { IfOk result (λ names. map word_of names.statuses.items ≡ status_words) }
+    ensures refusals { IfOk result (λ names. map word_of names.refusals.items ≡ refusal_words) }
 {
     Ok(Names {
         statuses: status_names(alloc)?,

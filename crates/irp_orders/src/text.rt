@@ -1,8 +1,9 @@
 //! Words, and what is displayed behind them.
 
-ghost use Rattle.std.specs.Prelude.{◌++◌, IfSome};
+ghost use Rattle.std.specs.Prelude.{◌≡◌, ◌++◌, IfSome};
 ghost use Rattle.irp_names.specs.Sinks.{Says};
 ghost use Rattle.irp_names.specs.Small.{hex_text};
+ghost use Rattle.irp_orders.specs.Counts as spec;
 
 use irp_names::Sink;
 use std::fmt;
@@ -16,21 +17,29 @@ pub fn tell<D: fmt::Display + Drop>(out: &mut Sink, words: &str, shown: D)
     out.show(shown);
 }
 
-/// Puts how many there are, and what one of them or several are called.
-pub fn put_count(out: &mut Sink, count: u128, one: &str, several: &str) {
-    out.show(count);
-    out.put(" ");
-    out.put(if count == 1 { one } else { several });
+/// What one of so many, or several, are called.
+fn called<'a>(count: u128, one: &'a str, several: &'a str) -> &'a str
+    ensures { result.now ≡ spec.called count one.entry.now several.entry.now }
+{
+    if count == 1 { one } else { several }
 }
 
 /// Puts how many orders there are.
-pub fn put_orders(out: &mut Sink, orders: u128) {
-    put_count(out, orders, "order", "orders");
+#[tactic(auto, using(irp_names::proofs::Saying::says_both))]
+pub fn put_orders(out: &mut Sink, orders: u128)
+    ensures { Says (spec.orders_text orders) out.old out.new }
+{
+    out.show(orders);
+    out.put(called(orders, " order", " orders"));
 }
 
 /// Puts how many outcomes there are.
-pub fn put_outcomes(out: &mut Sink, outcomes: usize) {
-    put_count(out, outcomes as u128, "outcome", "outcomes");
+#[tactic(auto, using(irp_names::proofs::Saying::says_both))]
+pub fn put_outcomes(out: &mut Sink, outcomes: usize)
+    ensures { Says (spec.outcomes_text outcomes) out.old out.new }
+{
+    out.show(outcomes);
+    out.put(called(outcomes as u128, " outcome", " outcomes"));
 }
 
 /// Puts words, and a number as `0x10` behind them.

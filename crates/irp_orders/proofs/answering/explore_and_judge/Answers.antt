@@ -1,10 +1,11 @@
 use Rattle.std.proofs.Common.{List, subst}
-use Rattle.std.proofs.lemmas.Result.{IfOk-weaker}
+use Rattle.std.proofs.lemmas.Result.{IfErr-weaker, IfOk-weaker}
 use Rattle.irp_orders.specs.Judging.{IsTold}
 use Rattle.irp_orders.specs.Exploring.{tells}
-use Rattle.irp_orders.specs.Program.{Judges}
+use Rattle.irp_orders.specs.Program.{IsUnjudged, Judges}
 use Rattle.irp_orders.specs.declared.found.Found.{Found}
 use Rattle.irp_orders.proofs.Programs.{told_judges}
+use Rattle.irp_orders.proofs.Showing.{unjudged_judges}
 use Rattle.irp_orders.proofs.answering.explore_and_judge.Goals as goal
 
 pub returns-in-Ok-clause-told : goal.returns-in-Ok-clause-told
@@ -18,3 +19,15 @@ returns-in-Ok-clause-told c =
     told_judges script order text c.in-Ok.founds.items told.1 c.in-Ok.ensures.outcomes
     (subst (λ (founds : List Found). IsTold script (tells order) text founds told.1) c.as_slice.ensures.value is))
     c.judge.ensures.told
+
+pub returns-in-Ok-clause-untold : goal.returns-in-Ok-clause-untold
+returns-in-Ok-clause-untold c =
+    let script = c.args.script.now in
+    let order = c.args.order.now in
+    let text = c.args.text.now in
+    IfErr-weaker c.judge.result (λ ending. IsUnjudged script (tells order) text c.as_slice.result.now ending)
+    (λ ending. Judges script order text ending)
+    (λ ending unjudged.
+    unjudged_judges script order text c.in-Ok.founds.items ending c.in-Ok.ensures.outcomes c.paths_can_be_made.ensures
+    (subst (λ (founds : List Found). IsUnjudged script (tells order) text founds ending) c.as_slice.ensures.value unjudged))
+    c.judge.ensures.unjudged

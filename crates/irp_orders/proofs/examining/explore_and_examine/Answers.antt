@@ -1,13 +1,14 @@
 use Rattle.std.proofs.Common.{List, subst}
-use Rattle.std.proofs.lemmas.Result.{IfOk-weaker}
+use Rattle.std.proofs.lemmas.Result.{IfErr-weaker, IfOk-weaker}
 use Rattle.irp_machine.specs.Orders.{AreOutcomesOf}
 use Rattle.irp_orders.specs.Exploring.{tells}
 use Rattle.irp_orders.specs.Founds.{outcomes_of}
 use Rattle.irp_orders.specs.Judging.{IsExamined}
-use Rattle.irp_orders.specs.Program.{Examines}
+use Rattle.irp_orders.specs.Program.{Examines, IsUntold}
 use Rattle.irp_orders.specs.declared.asked.Order.{Order}
 use Rattle.irp_orders.specs.declared.found.Found.{Found}
 use Rattle.irp_orders.proofs.Righting.{examined_examines}
+use Rattle.irp_orders.proofs.Showing.{untold_examines}
 use Rattle.irp_orders.proofs.examining.explore_and_examine.Goals as goal
 
 pub returns-in-Ok-clause-told : goal.returns-in-Ok-clause-told
@@ -23,3 +24,17 @@ returns-in-Ok-clause-told c =
     examined_examines script order founds told.1 outcomes
     (subst (λ (founds : List Found). IsExamined script founds told.1) c.as_slice.ensures.value is))
     c.examined.ensures.told
+
+pub returns-in-Ok-clause-untold : goal.returns-in-Ok-clause-untold
+returns-in-Ok-clause-untold c =
+    let script = c.args.script.now in
+    let order = c.args.order.now in
+    let founds = c.in-Ok.founds.items in
+    let outcomes =
+    subst (λ (order : Order). AreOutcomesOf c.args.script.now (tells order) (outcomes_of c.in-Ok.founds.items)) c.with_replies-order.ensures
+    c.in-Ok.ensures.outcomes in
+    IfErr-weaker c.examined.result (λ ending. IsUntold script c.as_slice.result.now ending) (λ ending. Examines script order ending)
+    (λ ending untold.
+    untold_examines script order founds ending outcomes c.paths_can_be_made.ensures
+    (subst (λ (founds : List Found). IsUntold script founds ending) c.as_slice.ensures.value untold))
+    c.examined.ensures.untold

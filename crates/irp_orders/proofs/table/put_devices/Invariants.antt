@@ -1,0 +1,9 @@
+use Rattle.std.proofs.Common.{take}
+use Rattle.std.specs.List.{enumerate_from, flat_map}
+use Rattle.irp_names.specs.Sinks.{Says}
+use Rattle.irp_orders.specs.Table.{told_device_line}
+use Rattle.irp_orders.proofs.table.put_devices.Given as goal
+
+-- the lines of those so far stand there
+abbrev pub invariant-loop-number : goal.invariant-loop-number
+invariant-loop-number l = Says (flat_map (told_device_line l.columns) (enumerate_from 0 (take l.number l.devices))) l.fn.out l.out

@@ -1,0 +1,9 @@
+use Rattle.std.proofs.Common.{take}
+use Rattle.std.specs.List.{enumerate_from, flat_map}
+use Rattle.irp_names.specs.Sinks.{Says}
+use Rattle.irp_orders.specs.Table.{label_line}
+use Rattle.irp_orders.proofs.table.put_labels.Given as goal
+
+-- the lines of those so far stand there
+abbrev pub invariant-loop-place : goal.invariant-loop-place
+invariant-loop-place l = Says (flat_map (label_line l.columns l.end) (enumerate_from 0 (take l.place l.labels))) l.fn.out l.out
