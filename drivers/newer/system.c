@@ -71,22 +71,42 @@ static NTSTATUS Open(PHANDLE Handle, ULONG Flags, BOOLEAN Makes)
                  : ZwOpenDirectoryObject(Handle, DIRECTORY_ALL_ACCESS, &attributes);
 }
 
-/* It goes with its last handle; a permanent one once it is made temporary. */
+/* Whether it ends so. It may be that there is no memory for it. */
+static BOOLEAN Ends(PHANDLE Handle, ULONG Flags, BOOLEAN Makes, NTSTATUS Wanted)
+{
+    const NTSTATUS status = Open(Handle, Flags, Makes);
+    WDM_CHECK(status == Wanted || status == STATUS_INSUFFICIENT_RESOURCES);
+    return status == Wanted;
+}
+
+/* It goes with its last handle. */
 static VOID AskDirectories(VOID)
 {
     HANDLE handle, second;
-    WDM_CHECK(!Open(&handle, 0, TRUE) && Open(&second, 0, TRUE) == STATUS_OBJECT_NAME_COLLISION);
-    WDM_CHECK(Open(&second, OBJ_OPENIF, TRUE) == STATUS_OBJECT_NAME_EXISTS);
+    if (!Ends(&handle, 0, TRUE, STATUS_SUCCESS))
+        return;
+    Ends(&second, 0, TRUE, STATUS_OBJECT_NAME_COLLISION);
+    const BOOLEAN opened = Ends(&second, OBJ_OPENIF, TRUE, STATUS_OBJECT_NAME_EXISTS);
     ZwClose(handle);
-    WDM_CHECK(!Open(&handle, 0, FALSE));
+    if (opened && Ends(&handle, 0, FALSE, STATUS_SUCCESS))
+        ZwClose(handle);
+    if (opened)
+        ZwClose(second);
+    Ends(&handle, 0, FALSE, STATUS_OBJECT_NAME_NOT_FOUND);
+}
+
+/* A permanent one goes once it is made temporary. */
+static VOID AskPermanentDirectory(VOID)
+{
+    HANDLE handle;
+    if (!Ends(&handle, OBJ_PERMANENT, TRUE, STATUS_SUCCESS))
+        return;
     ZwClose(handle);
-    ZwClose(second);
-    WDM_CHECK(Open(&handle, 0, FALSE) == STATUS_OBJECT_NAME_NOT_FOUND);
-    WDM_CHECK(!Open(&handle, OBJ_PERMANENT, TRUE));
+    if (!Ends(&handle, 0, FALSE, STATUS_SUCCESS))
+        return;
+    WDM_CHECK(!ZwMakeTemporaryObject(handle));
     ZwClose(handle);
-    WDM_CHECK(!Open(&handle, 0, FALSE) && !ZwMakeTemporaryObject(handle));
-    ZwClose(handle);
-    WDM_CHECK(Open(&handle, 0, FALSE) == STATUS_OBJECT_NAME_NOT_FOUND);
+    Ends(&handle, 0, FALSE, STATUS_OBJECT_NAME_NOT_FOUND);
 }
 
 static VOID Each(PKDPC Dpc, PVOID Context, PVOID Count, PVOID Barrier)
@@ -177,6 +197,7 @@ static NTSTATUS Control(PDEVICE_OBJECT DeviceObject, PIRP Irp)
     AskNames(DeviceObject);
     AskHandles();
     AskDirectories();
+    AskPermanentDirectory();
     AskProcessors();
     AskResource();
     AskLists();
