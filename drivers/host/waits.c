@@ -240,7 +240,9 @@ static int await_objects(const Objects *o, WDM_SITE at)
     note_waiting(o, at);
     while ((woken = wait_for(&w)) == STUCK || woken == OVERDUE) {
         pthread_mutex_unlock(&wait_lock);
+        self.wait = &w; /* another thread may tell of it meanwhile */
         hang(woken, began, at);
+        self.wait = NULL;
         began = __atomic_load_n(&host_activity, __ATOMIC_SEQ_CST);
         pthread_mutex_lock(&wait_lock);
     }
