@@ -105,6 +105,27 @@ echo '{"form":1,"seats":1,"locks":1,"completions":[],"cancels":[],"dispatches":[
     form_of | cmp -s - <(form_of <"$room/json")
 meets 'an empty text' [ $? -eq 0 ]
 
+# `setup` runs first wherever it stands: labels and devices are numbered in its order, and `steps` may have its names.
+top='seats one two
+dispatches
+  held: hold
+drivers
+  disk: IRP_MJ_READ held'
+setup='setup
+  create_device driver disk lock 0 as low
+  allocate size 1 as a'
+steps='steps
+  seat one allocate size 1 as b
+  seat one create_device driver disk lock 0 as high
+  seat one attach device high to low
+  seat two free irp a'
+printf '%s\n' "$top" "$setup" "$steps" | "$irp_words" json >"$room/json"
+meets 'setup above steps: status' [ $? -eq 0 ]
+printf '%s\n' "$top" "$steps" "$setup" | "$irp_words" json >"$room/other"
+meets 'setup below steps: status' [ $? -eq 0 ]
+meets 'setup below steps: the same script' cmp -s "$room/json" "$room/other"
+meets 'setup below steps: the devices' grep -q '"do":"attach","device":1,"to":0}' "$room/other"
+
 # A file that isn't there is named.
 "$irp_words" json "$room/no_such_file" >"$room/output" 2>"$room/told"
 meets 'no such file: status' [ $? -eq 5 ]

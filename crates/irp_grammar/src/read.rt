@@ -53,23 +53,67 @@ fn is_blank(character: char) -> bool {
     matches!(character, ' ' | '\t' | '\r')
 }
 
-/// Puts the words of a line in place of those that are there, and gives the column behind them.
-fn split<'a>(line: &'a str, words: &mut Vec<Word<'a>>) -> Result<usize, AllocError> {
-    words.clear();
+/// A line that has words, and the section in which it stands.
+#[derive(Drop)]
+struct Line<'a> {
+    section: Section,
+    /// Its number, from 1.
+    number: usize,
+    words: Vec<Word<'a>>,
+    /// The column behind its last word.
+    end: usize,
+}
+
+impl<'a> Line<'a> {
+    /// Its words, of which none is taken.
+    fn cursor(&self) -> Cursor<'a, '_> {
+        Cursor::new(self.words.as_slice(), self.number, self.end)
+    }
+
+    /// Whether it stands in `steps`.
+    fn is_in_steps(&self) -> bool {
+        self.section == Section::Steps
+    }
+}
+
+/// The words of a line.
+fn split<'a>(alloc: Global, line: &'a str) -> Result<Vec<Word<'a>>, AllocError> {
     let said = match line.split_once('#') {
         Some((said, _)) => said,
         None => line,
     };
+    let mut words = Vec::new(alloc);
     let mut column = 1usize;
-    let mut end = 1usize;
     for text in said.split(is_blank) {
         if !text.is_empty() {
             words.push(Word { text, column })?;
-            end = column.saturating_add(text.len());
         }
         column = column.saturating_add(text.len()).saturating_add(1);
     }
-    Ok(end)
+    Ok(words)
+}
+
+/// The lines of a text that have words, each in the section that the last heading above it names.
+fn lines_of<'a>(alloc: Global, text: &'a str) -> Result<Vec<Line<'a>>, AllocError> {
+    let mut lines = Vec::new(alloc);
+    let mut section = Section::Top;
+    let mut number = 0usize;
+    for text in text.split('\n') {
+        number = number.saturating_add(1);
+        let words = split(alloc, text)?;
+        if let Some(last) = words.last() {
+            let end = last.column.saturating_add(last.text.len());
+            let below = heading(words[0].text).unwrap_or(section);
+            lines.push(Line {
+                section,
+                number,
+                words,
+                end,
+            })?;
+            section = below;
+        }
+    }
+    Ok(lines)
 }
 
 /// What is counted in a section, where that has a count.
@@ -146,63 +190,69 @@ impl<'a> Said<'a> {
         }
     }
 
-    /// Takes a line, in the section that a heading above began. It gives the section in which the next line is.
+    /// Takes a line, in the section that a heading above began.
     fn take_line(
         &mut self,
         alloc: Global,
         section: Section,
         words: &mut Cursor<'a, '_>,
-    ) -> Option<Section> {
-        let Some(first) = words.peek() else {
-            return Some(section);
-        };
-        let next = heading(first);
-        if next.is_some() {
+    ) -> Option<()> {
+        if heading(words.text()).is_some() {
             words.pass();
         } else {
             self.take_member(alloc, section, words)?;
         }
-        words.ended()?;
-        Some(next.unwrap_or(section))
+        words.ended()
     }
 
-    /// Takes a line, and notes its fault where it has one.
-    fn take(
-        &mut self,
-        alloc: Global,
-        section: Section,
-        words: &mut Cursor<'a, '_>,
-    ) -> Result<Section, AllocError> {
-        match (self.take_line(alloc, section, words), words.fault()) {
-            (Some(next), _) => Ok(next),
-            (None, Some(fault)) => {
-                self.note(alloc, fault)?;
-                Ok(section)
-            }
-            (None, None) => Err(AllocError),
+    /// Takes a line. Where it has a fault, it notes that, unless so many are noted.
+    fn take(&mut self, alloc: Global, line: &Line<'a>, most: usize) -> Result<(), AllocError> {
+        let mut words = line.cursor();
+        if self.take_line(alloc, line.section, &mut words).is_some() {
+            return Ok(());
+        }
+        match words.fault() {
+            Some(fault) if self.faults.len() < most => self.note(alloc, fault),
+            Some(_) => Ok(()),
+            None => Err(AllocError),
         }
     }
 
-    /// Takes the lines of a text, up to the tenth fault.
-    fn take_lines(&mut self, alloc: Global, text: &'a str) -> Result<(), AllocError> {
-        let mut section = Section::Top;
-        let mut words = Vec::new(alloc);
-        let mut number = 0usize;
-        for line in text.split('\n') {
-            number = number.saturating_add(1);
-            let end = split(line, &mut words)?;
-            let mut cursor = Cursor::new(words.as_slice(), number, end);
-            section = self.take(alloc, section, &mut cursor)?;
-            if self.faults.len() >= MOST_FAULTS {
-                return Ok(());
+    /// Takes those of these lines that stand in `steps`, or all others, and notes ten faults of them at most.
+    fn take_lines(
+        &mut self,
+        alloc: Global,
+        lines: &[Line<'a>],
+        in_steps: bool,
+    ) -> Result<(), AllocError> {
+        let most = self.faults.len().saturating_add(MOST_FAULTS);
+        for line in lines {
+            if line.is_in_steps() == in_steps {
+                self.take(alloc, line, most)?;
             }
         }
         Ok(())
     }
+
+    /// Takes a text: the lines in `steps` after all others, because `setup` runs before `steps`, wherever the two stand.
+    /// It leaves the first ten faults.
+    fn take_text(&mut self, alloc: Global, text: &'a str) -> Result<(), AllocError> {
+        let lines = lines_of(alloc, text)?;
+        self.take_lines(alloc, lines.as_slice(), false)?;
+        self.take_lines(alloc, lines.as_slice(), true)?;
+        if self.form == Some(1) && self.slots.is_some() {
+            let fault = self.fault_at(Section::Slots, 0, Wanted::FormTwo);
+            self.faults.push(fault)?;
+        }
+        self.faults
+            .sort_by_key(|fault: &WordsFault<'_>| fault.line)?;
+        self.faults.truncate(MOST_FAULTS);
+        Ok(())
+    }
 }
 
-/// What the lines of a text say, and what is wrong with them: at most ten faults, in the order of the lines, one of a
-/// line.
+/// What the lines of a text say, and what is wrong with them: the first ten faults, in the order of the lines. A name
+/// stands for its number below the line that gives it, and in `steps` above that line too.
 ///
 /// # Errors
 ///
@@ -217,12 +267,8 @@ pub fn read_lines<'a>(alloc: Global, bytes: &'a [u8]) -> Result<Said<'a>, AllocE
         return Ok(said);
     }
     match str::from_utf8(bytes) {
-        Ok(text) => said.take_lines(alloc, text)?,
+        Ok(text) => said.take_text(alloc, text)?,
         Err(_) => said.faults.push(WordsFault::of_text(Wanted::Utf8))?,
-    }
-    if said.form == Some(1) && said.slots.is_some() {
-        let fault = said.fault_at(Section::Slots, 0, Wanted::FormTwo);
-        said.faults.push(fault)?;
     }
     Ok(said)
 }
