@@ -72,6 +72,15 @@ WDM_TEST(it_is_not_started_where_the_drivers_below_fail)
     take_away(top, bottom);
 }
 
+WDM_TEST(a_removal_takes_the_device_away)
+{
+    top = stack(&bottom);
+    tell(IRP_MN_START_DEVICE);
+    tell(IRP_MN_REMOVE_DEVICE);
+    WDM_CHECK(bottom->AttachedDevice == NULL);
+    IoDeleteDevice(bottom);
+}
+
 /* Two devices are asked at once. The other one was never started. */
 WDM_TEST(each_device_has_its_own_state)
 {
