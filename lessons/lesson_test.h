@@ -61,8 +61,12 @@ static inline void meet(void *(*one)(void *), void *its, void *(*other)(void *),
     pthread_join(t, NULL);
 }
 
-/* Unloads a driver whose only device DriverEntry created: what it has left is told then. */
-static inline VOID delete_its_device(PDRIVER_OBJECT driver) { IoDeleteDevice(driver->DeviceObject); }
+/* Unloads a driver, with the only device that DriverEntry may have created: what it has left is told then. */
+static inline VOID delete_its_device(PDRIVER_OBJECT driver)
+{
+    if (driver->DeviceObject)
+        IoDeleteDevice(driver->DeviceObject);
+}
 
 static inline void unload(PDRIVER_OBJECT driver)
 {

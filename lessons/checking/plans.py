@@ -44,7 +44,7 @@ MORE_RUNS = {
     8: (*(every_order(f"in_every_order_a_{it}_meets_the_removal", 2) for it in ("read", "write")),
         every_order("in_every_order_the_removal_waits_for_two_reads", 1)),
     11: (Run(True, ("--low-memory", "--test", "each_handle_has_its_own_count")),),
-    12: (Run(True, ("--routines-high",)), Run(False, ("--routines-high",))),
+    12: (Run(True, ("--routines-high",)), Run(False, ("--routines-high",)), Run(True, ("--low-memory",))),
 }
 # Flags of the plain runs: memory is told where it is used after its end, or behind it.
 PLAIN = {it: ("--page-ends",) for it in (2, 11, 14)}
