@@ -123,6 +123,10 @@ HINTS = [
          "Find the way on which the packet isn't completed, the event isn't set, or a lock is never given back."),
     Hint("FAULT Check", "The lesson's test.c asks for what the line says. What did your driver do instead?", "the lesson's test.c",
          "Read the test: the line says what it sent and what should come back."),
+    Hint("STOPPED: its time is over", "The line that it names goes on for ever, or its caller does. What should end that, and who "
+         "does it?", WAIT, "Let the driver return, and go on when it is called again."),
+    Hint("STOPPED: a driver forks", "A driver has no process of its own that could be copied. Whose thread should do this work?",
+         '"System Worker Threads"', "Queue a work item."),
     Hint("STOPPED|it crashed", "The run couldn't go on. What does the line that it names use, and who checked that it is there?",
          "drivers/README.md", "Check the pointer, or initialize the object, before the line uses it."),
     Hint("entries are fewer than|entries of at least", "The host found less to do than it wanted. Does DriverEntry create a "
