@@ -7,8 +7,8 @@ import re
 import tempfile
 
 import judging
-import orders
 import plans
+import protocols
 import telling
 import texts
 
@@ -102,7 +102,7 @@ def of_protocol(number):
     """Returns the same of the lesson that has a protocol: the order that isn't right."""
     path = texts.files_of(number)[0]
     said = judging.judge_protocol(path)[1]
-    return Shown(said, "The order", [Moment(*it) for it in orders.moments_of(path, said)], "")
+    return Shown(said, "The order", [Moment(*it) for it in protocols.moments_of(path, said)], "")
 
 
 def of(number):
