@@ -52,8 +52,21 @@ static inline void *write_once(void *device)
     return NULL;
 }
 
-/* Unloads a driver whose only device DriverEntry created: what it has left is told then. */
-static inline VOID delete_its_device(PDRIVER_OBJECT driver) { IoDeleteDevice(driver->DeviceObject); }
+/* Two threads, each with one thing to do. */
+static inline void meet(void *(*one)(void *), void *its, void *(*other)(void *), void *others)
+{
+    pthread_t t;
+    pthread_create(&t, NULL, one, its);
+    other(others);
+    pthread_join(t, NULL);
+}
+
+/* Unloads a driver, with the only device that DriverEntry may have created: what it has left is told then. */
+static inline VOID delete_its_device(PDRIVER_OBJECT driver)
+{
+    if (driver->DeviceObject)
+        IoDeleteDevice(driver->DeviceObject);
+}
 
 static inline void unload(PDRIVER_OBJECT driver)
 {

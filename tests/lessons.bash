@@ -1,6 +1,7 @@
 #!/bin/bash
 # Tries the lessons: each one's file has its mistake told, with a question, and answers are judged as they should be: a telling
-# selection of what lessons/try has; and a class is graded (lessons/graded). With words, only what lessons/try chooses by them.
+# selection of what lessons/try has; a class is graded (lessons/graded), and slides are written (lessons/shown). With words, only
+# what lessons/try chooses by them.
 # IRPX, IRP_VIEW and IRP_ORDERS name the programs; without them, they are those that bin/program builds. The last line is
 # `N passed, M failed`. Ends with status 0 where nothing failed, else with 1.
 set -u
@@ -16,7 +17,7 @@ fi
 [ $# -eq 0 ] || exec lessons/try "$@"
 passed=0
 failed=0
-for it in lessons/try lessons/graded; do
+for it in lessons/try lessons/graded lessons/shown; do
     said=$("$it" 2>&1)
     read -r right _ wrong _ <<<"$(tail -n 1 <<<"$said")"
     sed '$d' <<<"$said"

@@ -35,6 +35,17 @@ WDM_TEST(a_write_that_meets_a_cancel_answers_one_of_two_reads)
     WdmSend(device, IRP_MJ_WRITE, 0, 4);
 }
 
+/* The write answers the read, or ends before it comes. */
+WDM_TEST(in_every_order_a_read_meets_a_write)
+{
+    PDRIVER_OBJECT driver = WdmLoadByName(DRIVER);
+    build(&a, driver->DeviceObject, IRP_MJ_READ, 4);
+    meet(write_once, driver->DeviceObject, send_it, &a);
+    WdmSend(driver->DeviceObject, IRP_MJ_WRITE, 0, 4);
+    WDM_CHECK(is_answered(&a));
+    unload(driver);
+}
+
 WDM_TEST(a_closed_handle_has_no_reads_left)
 {
     PDRIVER_OBJECT driver = WdmLoadByName(DRIVER);

@@ -3,15 +3,6 @@
 
 static REQUEST a, b;
 
-/* Two threads, each with one thing to do. */
-static void meet(void *(*one)(void *), void *its, void *(*other)(void *), void *others)
-{
-    pthread_t t;
-    pthread_create(&t, NULL, one, its);
-    other(others);
-    pthread_join(t, NULL);
-}
-
 WDM_TEST(the_next_request_answers_the_read)
 {
     PDRIVER_OBJECT driver = WdmLoadByName(DRIVER);

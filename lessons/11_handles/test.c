@@ -27,6 +27,9 @@ WDM_TEST(each_handle_has_its_own_count)
         WDM_CHECK(reads(driver->DeviceObject, a) && reads(driver->DeviceObject, a) && !reads(driver->DeviceObject, a));
     if (b)
         WDM_CHECK(reads(driver->DeviceObject, b));
+    PFILE_OBJECT nobody_reads_it = WdmOpenFile(driver->DeviceObject);
+    if (nobody_reads_it)
+        WdmCloseFile(nobody_reads_it);
     if (a)
         WdmCloseFile(a);
     if (b)

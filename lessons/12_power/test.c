@@ -38,6 +38,7 @@ static void set_system(PDEVICE_OBJECT top, SYSTEM_POWER_STATE state)
 WDM_TEST(the_device_follows_the_system)
 {
     PDEVICE_OBJECT bottom, top = stack(&bottom);
+    PDRIVER_OBJECT driver = top->DriverObject;
     bottom->DriverObject->MajorFunction[IRP_MJ_POWER] = power_below;
     pnp(top, IRP_MN_START_DEVICE);
     set_system(top, PowerSystemSleeping3);
@@ -45,4 +46,5 @@ WDM_TEST(the_device_follows_the_system)
     set_system(top, PowerSystemWorking);
     WDM_CHECK(n_device_packets == 2 && last_device_state == PowerDeviceD0);
     take_away(top, bottom);
+    unload(driver);
 }

@@ -45,6 +45,18 @@ WDM_TEST(a_removal_comes_to_nothing)
     take_away(top, bottom);
 }
 
+/* It was stopped before anybody asked to remove it. */
+WDM_TEST(a_stopped_device_stays_stopped)
+{
+    top = stack(&bottom);
+    tell(IRP_MN_START_DEVICE);
+    tell(IRP_MN_QUERY_STOP_DEVICE);
+    tell(IRP_MN_STOP_DEVICE);
+    WDM_CHECK(tell(IRP_MN_QUERY_REMOVE_DEVICE) && tell(IRP_MN_CANCEL_REMOVE_DEVICE) && !answers_reads());
+    WDM_CHECK(tell(IRP_MN_START_DEVICE) && answers_reads());
+    take_away(top, bottom);
+}
+
 /* A driver above said no, so the question didn't come down here; and the device hasn't started. */
 WDM_TEST(a_cancel_without_a_query_starts_nothing)
 {
@@ -70,6 +82,17 @@ WDM_TEST(it_is_not_started_where_the_drivers_below_fail)
     below.Status = STATUS_SUCCESS;
     WDM_CHECK(!answers_reads());
     take_away(top, bottom);
+}
+
+WDM_TEST(a_removal_takes_the_device_away)
+{
+    top = stack(&bottom);
+    PDRIVER_OBJECT driver = top->DriverObject;
+    tell(IRP_MN_START_DEVICE);
+    tell(IRP_MN_REMOVE_DEVICE);
+    WDM_CHECK(bottom->AttachedDevice == NULL);
+    IoDeleteDevice(bottom);
+    unload(driver);
 }
 
 /* Two devices are asked at once. The other one was never started. */

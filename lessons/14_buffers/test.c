@@ -31,11 +31,18 @@ static ULONG written(void)
     return n;
 }
 
+static BOOLEAN is_the_version(void)
+{
+    const ULONG version = 0x01020304;
+    return !memcmp(output, &version, sizeof version);
+}
+
 WDM_TEST(a_buffered_answer_is_as_long_as_it_fits)
 {
     PDRIVER_OBJECT driver = WdmLoadByName(DRIVER);
     const PDEVICE_OBJECT device = driver->DeviceObject;
     WDM_CHECK(control(device, GET, 0, 4) == STATUS_SUCCESS && iosb.Information == 4 && written() == 4);
+    WDM_CHECK(is_the_version());
     WDM_CHECK(control(device, GET, 0, 16) == STATUS_SUCCESS && iosb.Information == 4 && written() == 4);
     WDM_CHECK(!NT_SUCCESS(control(device, GET, 0, 3)) && written() == 0);
     WDM_CHECK(!NT_SUCCESS(control(device, GET, 16, 0)) && iosb.Information == 0);

@@ -95,6 +95,8 @@ HINTS = [
          '"Introduction to Spin Locks"', "Release the lock first, then complete or send."),
     Hint("FAULT (IrqlTooHigh|IrqlReturn|WrongIrql|LockKept)", "Which lock is held there, and at which level does the routine "
          "return?", '"Managing Hardware Priorities"', "Give back each lock on each way, with the level that its acquire gave."),
+    Hint("FAULT NotAcquired", "A lock is given back that nobody holds there. Who calls this function, and with which lock held?",
+         CANCEL_ROUTINE, "Leave the cancel routine to IoCancelIrp, which holds the lock: complete the packet where you have it."),
     Hint("FAULT LeftBehind.*work item", "The driver is unloaded, and a work item of it is still there. Who should have freed it, "
          "on each way?", '"System Worker Threads"', "Call IoFreeWorkItem once for each IoAllocateWorkItem."),
     Hint("FAULT (LeftBehind|PoolLeak)", "The driver is unloaded, and something of it is still there. Who should have freed it?",
@@ -121,6 +123,10 @@ HINTS = [
          "Find the way on which the packet isn't completed, the event isn't set, or a lock is never given back."),
     Hint("FAULT Check", "The lesson's test.c asks for what the line says. What did your driver do instead?", "the lesson's test.c",
          "Read the test: the line says what it sent and what should come back."),
+    Hint("STOPPED: its time is over", "The line that it names goes on for ever, or its caller does. What should end that, and who "
+         "does it?", WAIT, "Let the driver return, and go on when it is called again."),
+    Hint("STOPPED: a driver forks", "A driver has no process of its own that could be copied. Whose thread should do this work?",
+         '"System Worker Threads"', "Queue a work item."),
     Hint("STOPPED|it crashed", "The run couldn't go on. What does the line that it names use, and who checked that it is there?",
          "drivers/README.md", "Check the pointer, or initialize the object, before the line uses it."),
     Hint("entries are fewer than|entries of at least", "The host found less to do than it wanted. Does DriverEntry create a "
@@ -191,11 +197,16 @@ HINTS_OF = {
     13: [Hint(r"FAULT Check.*tell\(IRP_MN_\w+\) && answers_reads", "Nothing came of the question, or the device was started. In "
               "which state is it then?", '"State Transitions for PnP Devices"', "On a cancel, go back to the state from before the "
               "query."),
+         Hint(r"FAULT Check.*AttachedDevice", "The device is removed. What still lies above the device below, and who should have "
+              "taken it away?", '"Handling an IRP_MN_REMOVE_DEVICE Request"', "Pass the packet down, then call IoDetachDevice and "
+              "IoDeleteDevice."),
          Hint(r"FAULT Check.*!answers_reads", "May the device answer reads in this state? Who told it to?",
               '"State Transitions for PnP Devices"', "Only a device that is started, that nobody asks to stop or go, and that is "
               "there, answers reads.")],
     14: [Hint(r"outside of __try", "What does a probe do with a pointer that is bad, and who catches that?",
               '"Using Neither Buffered Nor Direct I/O"', "Probe and copy inside one __try block."),
+         Hint(r"FAULT Check.*the_version", "From which buffer does the I/O manager copy a buffered answer to the program?",
+              '"Using Buffered I/O"', "Write into SystemBuffer."),
          Hint(r"FAULT (Check.*control|InformationTooLong|PoolOverrun)", "How long is the output that the caller can take, and which "
               "of the two lengths says so?", '"Buffer Descriptions for I/O Control Codes"', "Compare with OutputBufferLength before "
               "you write, and set Information to what you wrote.")],

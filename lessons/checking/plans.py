@@ -39,11 +39,12 @@ MORE_RUNS = {
     5: (every_order("in_every_order_it_waits_for_the_drivers_below", 1),),
     6: CANCELS_MEET, 9: CANCELS_MEET,
     7: tuple(every_order(it) for it in ("a_write_that_meets_a_cancel_answers_one_of_two_reads",
+                                        "in_every_order_a_read_meets_a_write",
                                         "in_every_order_a_cancel_meets_the_end_of_its_handle")),
     8: (*(every_order(f"in_every_order_a_{it}_meets_the_removal", 2) for it in ("read", "write")),
         every_order("in_every_order_the_removal_waits_for_two_reads", 1)),
     11: (Run(True, ("--low-memory", "--test", "each_handle_has_its_own_count")),),
-    12: (Run(True, ("--routines-high",)), Run(False, ("--routines-high",))),
+    12: (Run(True, ("--routines-high",)), Run(False, ("--routines-high",)), Run(True, ("--low-memory",))),
 }
 # Flags of the plain runs: memory is told where it is used after its end, or behind it.
 PLAIN = {it: ("--page-ends",) for it in (2, 11, 14)}

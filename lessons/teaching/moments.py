@@ -1,12 +1,14 @@
 """Runs what a lesson shows, and takes the page of one packet's way apart: a moment for each entry."""
 
+import collections
+import json
 import os
 import re
-import subprocess
 import tempfile
 
 import judging
 import plans
+import protocols
 import telling
 import texts
 
@@ -15,16 +17,17 @@ ENTRY = re.compile(r'<li id="e(\d+)">(.*?)\n</li>', re.DOTALL)
 # What the manager would have answered: that is the lesson's answer.
 WHY = re.compile(r'<div class="why".*</div>(?=\s*(?:<p class="because">|$))', re.DOTALL)
 CALL = re.compile(r'<span class="call">(.*?)</span>(?:\s*<span class="(?:gives|no)">(.*?)</span>)?', re.DOTALL)
+# One step of what is shown: its number, its call on one line, and its picture with what is told of it, as HTML.
+Moment = collections.namedtuple("Moment", "number call picture")
+# What is told of a lesson's file, what the moments show, these, and the style of their pictures.
+Shown = collections.namedtuple("Shown", "said name moments style")
 
 
-class Moment:
-    """One entry of a history: its number, its call on one line, and its picture with what is told of it, as HTML."""
-
-    def __init__(self, number, text):
-        self.number = int(number)
-        text = WHY.sub('<p class="no">The manager can’t have made this entry.</p>', re.sub(r'^<a class="n".*?</a>', "", text))
-        self.call = " ".join(it for it in (CALL.search(text) or [None, text, ""]).groups("") if it) if CALL.search(text) else text
-        self.picture = text
+def moment_of(number, text):
+    """Returns the moment of one entry of a page."""
+    text = WHY.sub('<p class="no">The manager can’t have made this entry.</p>', re.sub(r'^<a class="n".*?</a>', "", text))
+    call = CALL.search(text)
+    return Moment(int(number), " ".join(it for it in call.groups("") if it) if call else text, text)
 
 
 def page_of(transcript, packet=None):
@@ -40,17 +43,35 @@ def style_of(page):
     return re.search(r"<style>(.*?)</style>", page, re.DOTALL)[1]
 
 
-def run(number, folder):
-    """Runs a lesson's driver. Returns what is told, and the packet that the fault names, or the first read's."""
-    test = [f"{texts.folder_of(number)}/test.c"]
-    for more in (), test:
-        flags = ['--cflag=-DDRIVER="driver"'] if more else []
-        status, said = judging.ended([f"{TOP}/drivers/run", *flags, "--transcript", f"{folder}/driver.transcript",
-                                      texts.files_of(number)[0], *more])
-        if status == 1:
-            break
-    named = re.search(r"FAULT.*?IRP (\d+\.\d+)", said)
-    return telling.told(said, 1), named and named[1]
+def run(number, path):
+    """Runs a lesson's driver, with the transcript of the run that tells a fault. Returns what is told, and what this run told."""
+    test = ['--cflag=-DDRIVER="driver"', f"{texts.folder_of(number)}/test.c"]
+    words = [f"{TOP}/drivers/run", "--transcript", path, texts.files_of(number)[0]]
+    status, said = judging.ended(words)
+    if status == 1:
+        return said, said
+    said = judging.ended([*words, *test])[1]
+    # The transcript is that of the last test, whichever of them tells the fault.
+    failed = re.search(r"(?m)^(\w+):\n(?:host:.*\n)*\d+ entries.*NOT CLEAN", said)
+    return said, judging.ended([*words, *test, "--test", failed[1]])[1] if failed else said
+
+
+def packet_before(path, number):
+    """Returns the packet of the last entry before the one with this number, or None."""
+    with open(path, encoding="utf-8") as it:
+        entries = [it for it in map(json.loads, it) if "call" in it and it["n"] < number]
+    found = [it["call"].get("irp") or it["reply"]["irp"] for it in entries
+             if "irp" in it["call"] or isinstance(it["reply"], dict) and "irp" in it["reply"]]
+    return ".".join(map(str, found[-1])) if found else None
+
+
+def packet_of(said, path):
+    """Returns the packet that the first fault names, else that of the entry before it, else that of the first read."""
+    fault = next((it for it in said.splitlines() if "FAULT" in it), "")
+    named, before = re.search(r"IRP (\d+\.\d+)", fault), re.search(r"\[before entry (\d+)\]", fault)
+    if named:
+        return named[1]
+    return before and packet_before(path, int(before[1])) or first_read(page_of(path))
 
 
 def first_read(page):
@@ -60,42 +81,37 @@ def first_read(page):
 
 
 def of_driver(number):
-    """Returns what the host tells of a lesson's driver, the page of the packet that it tells it of, and the packet."""
+    """Returns what the host tells of a lesson's driver, with the way of the packet that it tells it of."""
     with tempfile.TemporaryDirectory() as folder:
-        said, packet = run(number, folder)
         path = f"{folder}/driver.transcript"
+        said, of_run = run(number, path)
+        said = telling.told(said, 1)
         if not os.path.exists(path):
-            return said, None, None
-        packet = packet or first_read(page_of(path))
-        return said, page_of(path, packet), packet
+            return Shown(said, "", [], "")
+        packet = packet_of(of_run, path)
+        return by_page(said, f"IRP {packet}" if packet else "The history", page_of(path, packet))
 
 
 def of_history(number):
     """Returns the same of the lesson that has a history."""
     path = texts.files_of(number)[0]
-    return telling.told(judging.judge_history(path)[1], 4), page_of(path), None
+    return by_page(telling.told(judging.judge_history(path)[1], 4), "The history", page_of(path))
 
 
 def of_protocol(number):
     """Returns the same of the lesson that has a protocol: the order that isn't right."""
     path = texts.files_of(number)[0]
     said = judging.judge_protocol(path)[1]
-    with tempfile.NamedTemporaryFile("w", suffix=".transcript", encoding="utf-8") as out:
-        made = subprocess.run([judging.program("irp_orders"), "--right", path], capture_output=True, text=True, check=False)
-        shown = [it for it in made.stdout.splitlines() if it.startswith("{")]
-        if not shown:
-            return said, None, None
-        out.write("\n".join(shown) + "\n")
-        out.flush()
-        return said, page_of(out.name), None
+    return Shown(said, "The order", [Moment(*it) for it in protocols.moments_of(path, said)], "")
 
 
 def of(number):
-    """Returns what is told of a lesson's file, the page that shows it or None, and its packet or None."""
+    """Returns what is told of a lesson's file, and what shows it."""
     own = {plans.HISTORY: of_history, plans.PROTOCOL: of_protocol}
     return own.get(number, of_driver)(number)
 
 
-def moments(page):
-    """Returns the moments of a page, in order."""
-    return [Moment(*it) for it in ENTRY.findall(page.partition('<ol class="entries">')[2])]
+def by_page(said, name, page):
+    """Returns what is told, with the moments of a page, in order."""
+    found = [moment_of(*it) for it in ENTRY.findall(page.partition('<ol class="entries">')[2])]
+    return Shown(said, name, found, style_of(page))

@@ -89,19 +89,17 @@ def moment_slides(found):
 
 def of_lesson(number):
     """Returns a lesson's slides, each a title and a body, and the style of its pictures."""
-    said, page, packet = moments.of(number)
+    shown = moments.of(number)
     before, command, question, more = texts.parts_of(number)
     title = texts.title_of(number)
     slides = [(title, "".join(f"<p>{it}</p>" for it in before))]
     if number not in plans.FILES:
         slides += [("What is wrong here?", it) for it in code_slides(texts.excerpt(number))]
-    slides.append(("Run it", f'<pre class="run">$ {html.escape(command)}</pre><pre class="run">{html.escape(said)}</pre>'))
-    if page:
-        name = f"IRP {packet}" if packet else "The history"
-        found = moment_slides(moments.moments(page))
-        slides += [(f"{name}: moment {at} of {len(found)}", it) for at, it in enumerate(found, 1)]
+    slides.append(("Run it", f'<pre class="run">$ {html.escape(command)}</pre><pre class="run">{html.escape(shown.said)}</pre>'))
+    found = moment_slides(shown.moments)
+    slides += [(f"{shown.name}: moment {at} of {len(found)}", it) for at, it in enumerate(found, 1)]
     slides.append(("Think", f'<p class="question">{question}</p>' + "".join(f"<p>{it}</p>" for it in more)))
-    return [(f"Lesson {title}", *it) for it in slides], moments.style_of(page) if page else ""
+    return [(f"Lesson {title}", *it) for it in slides], shown.style
 
 
 def page_of(lessons):
