@@ -32,7 +32,8 @@ VOID KeLeaveGuardedRegion(VOID)
     KeLeaveCriticalRegion();
 }
 
-BOOLEAN KeAreApcsDisabled(VOID) { return self.regions > 0 || self.irql >= APC_LEVEL; }
+/* By regions alone; the level counts only for all of them. */
+BOOLEAN KeAreApcsDisabled(VOID) { return self.regions > 0; }
 BOOLEAN KeAreAllApcsDisabled(VOID) { return self.guarded_regions > 0 || self.irql >= APC_LEVEL; }
 
 enum { MAX_READERS = 32 };

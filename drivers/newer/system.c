@@ -181,7 +181,7 @@ static VOID AskResource(VOID)
     ZwClose(thread);
 }
 
-/* A critical region keeps off normal APCs alone, a guarded one and APC_LEVEL all of them. */
+/* A critical region keeps off normal APCs alone, a guarded one all of them, as APC_LEVEL does. */
 static VOID AskRegions(VOID)
 {
     KIRQL before;
@@ -194,7 +194,7 @@ static VOID AskRegions(VOID)
     KeLeaveCriticalRegion();
     WDM_CHECK(!KeAreApcsDisabled());
     KeRaiseIrql(APC_LEVEL, &before);
-    WDM_CHECK(KeAreApcsDisabled() && KeAreAllApcsDisabled());
+    WDM_CHECK(KeAreAllApcsDisabled());
     KeLowerIrql(before);
 }
 

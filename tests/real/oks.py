@@ -156,7 +156,7 @@ WAITS = ("1668", "1694", "1703", *(f"{line}@{caller}" for line in (1438, 1441, 1
 FAILS = {
     "driver.c": {
         "451": "there is one process, the system's",
-        "2030": ONE, "2054": ONE,
+        "498": "a dispatch has no APCs disabled here; Windows shows both", "2030": ONE, "2054": ONE,
         **dict.fromkeys(WAITS, "on a slow machine: the thread that it waits a moment for hasn't come"),
     },
 }
