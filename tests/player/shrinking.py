@@ -142,6 +142,7 @@ def places(script):
     for k, plan in enumerate(script["dispatches"]):
         yield from (("dispatches", k, n) for n in (1, 2) if plan[0] == "finish")
         yield from (("dispatches", k, 1, n) for n in (2, 3) if plan[0].startswith("forward") and plan[1])
+    yield from (("cancels", k, 1) for k, it in enumerate(script["cancels"]) if it[0] == "finish")
     for k, (_, *does) in enumerate(script["completions"]):
         yield from (("completions", k, m, n) for m, it in enumerate(does, 1) if it[0] == "replace" for n in (1, 2))
 
