@@ -251,7 +251,7 @@ typedef struct {
     Packet *opened; /* watching.c: a function of the driver that has it touched it */
     struct _KTHREAD *thread;
     PFILE_OBJECT file; /* whose packets it builds (WdmUseFile), or NULL */
-    int regions;       /* critical ones that it is in */
+    int regions, guarded_regions; /* critical ones that it is in, and those of them that are guarded */
     KAFFINITY affinity; /* the processors that it was told to run on, or 0 */
     const Wait *wait;  /* where it waits on a real thread, or NULL */
     pthread_t id;

@@ -200,6 +200,15 @@ static KEVENT process = { { .Type = 3 } }; /* as Windows numbers it; nobody sees
 PEPROCESS PsInitialSystemProcess = (PEPROCESS)&process;
 PEPROCESS PsGetCurrentProcess(VOID) { return PsInitialSystemProcess; }
 
+NTSTATUS WdmPsLookupProcess(HANDLE Number, PEPROCESS *Process, WDM_SITE at)
+{
+    if (Number != PsGetCurrentProcessId())
+        return STATUS_INVALID_PARAMETER;
+    *Process = PsInitialSystemProcess;
+    WdmObReferenceObject(*Process, at);
+    return STATUS_SUCCESS;
+}
+
 HANDLE PsGetThreadId(PETHREAD Thread) { return (HANDLE)Thread; }
 HANDLE PsGetCurrentThreadId(VOID) { return (HANDLE)KeGetCurrentThread(); }
 

@@ -50,12 +50,13 @@ static void ask_id(PDEVICE_OBJECT pdo, BUS_QUERY_ID_TYPE type, char *id, size_t 
     ExFreePool((PVOID)text);
 }
 
-static void ask_capabilities(PDEVICE_OBJECT pdo)
+/* Returns whether the instance is unique in the system. */
+static bool ask_capabilities(PDEVICE_OBJECT pdo)
 {
     DEVICE_CAPABILITIES capabilities = { .Size = sizeof capabilities, .Version = 1, .Address = (ULONG)-1,
                                          .UINumber = (ULONG)-1 };
     const IO_STACK_LOCATION like = { .Parameters.DeviceCapabilities.Capabilities = &capabilities };
-    ask_device(pdo, IRP_MN_QUERY_CAPABILITIES, &like, NULL);
+    return NT_SUCCESS(ask_device(pdo, IRP_MN_QUERY_CAPABILITIES, &like, NULL)) && capabilities.UniqueID;
 }
 
 static void ask_text(PDEVICE_OBJECT pdo, DEVICE_TEXT_TYPE type)
@@ -64,13 +65,23 @@ static void ask_text(PDEVICE_OBJECT pdo, DEVICE_TEXT_TYPE type)
     ask_for_block(pdo, IRP_MN_QUERY_DEVICE_TEXT, &like);
 }
 
+/* An instance that is unique on its bus alone has more before it. */
+static void ask_instance(PDEVICE_OBJECT pdo, const char *id, bool is_unique)
+{
+    char instance[60] = "", path[80];
+    ask_id(pdo, BusQueryInstanceID, instance, sizeof instance);
+    snprintf(path, sizeof path, "%d&%s", pdo->HostNumber, instance);
+    if (*id)
+        name_instance(pdo, id, is_unique && *instance ? instance : path);
+}
+
 void ask_new_child(PDEVICE_OBJECT pdo, char *id, size_t size)
 {
     ask_id(pdo, BusQueryDeviceID, id, size);
-    ask_capabilities(pdo);
+    const bool is_unique = ask_capabilities(pdo);
     ask_text(pdo, DeviceTextDescription);
     ask_text(pdo, DeviceTextLocationInformation);
-    ask_id(pdo, BusQueryInstanceID, NULL, 0);
+    ask_instance(pdo, id, is_unique);
     ask_id(pdo, BusQueryHardwareIDs, NULL, 0);
     ask_id(pdo, BusQueryCompatibleIDs, NULL, 0);
     ask_for_block(pdo, IRP_MN_QUERY_RESOURCES, NULL);

@@ -1,12 +1,13 @@
 /* properties.c: names of devices, links, interfaces, notifications: what Plug and Play keeps of devices. */
 #include "host.h"
 
-enum { MAX_NAMES = 256 };
+enum { MAX_NAMES = 256, MAX_LINK = 200, MAX_INSTANCES = 64 };
 typedef struct { UNICODE_STRING name, target; PDEVICE_OBJECT device; const GUID *class; bool is_enabled, leads_nowhere;
                  WDM_SITE made; int driver; } Name; /* made: of an interface, where it was enabled */
 typedef struct { IO_NOTIFICATION_EVENT_CATEGORY category; GUID class; PFILE_OBJECT file;
                  PDRIVER_NOTIFICATION_CALLBACK_ROUTINE routine; PVOID context; int driver; WDM_SITE made; } Registration;
 static Name names[MAX_NAMES];
+static struct { PDEVICE_OBJECT device; WCHAR path[MAX_LINK / 2]; } instances[MAX_INSTANCES]; /* that the manager asked */
 static Registration registrations[64];
 static int n_names;
 
@@ -80,6 +81,9 @@ PCUNICODE_STRING name_of_device(const void *device)
 void forget_names(PDEVICE_OBJECT device)
 {
     touch(&names, WRITES);
+    for (int i = 0; i < MAX_INSTANCES; i++)
+        if (instances[i].device == device)
+            instances[i].device = NULL;
     for (int i = 0; i < n_names; i++)
         if (names[i].device == device && names[i].class)
             names[i].leads_nowhere = true;
@@ -87,6 +91,13 @@ void forget_names(PDEVICE_OBJECT device)
             mark_links(&names[i].name, true);
             names[i].name.Buffer = NULL;
         }
+}
+
+static void tell_enabled(const Name *n)
+{
+    if (n->is_enabled)
+        broken_at("InterfaceEnabled", "IoSetDeviceInterfaceState", n->made, "the device is gone, and its interface "
+                  "is still enabled");
 }
 
 /* At the end, since a driver may end them after its device: links and interfaces of devices that are gone. Under G. */
@@ -97,9 +108,8 @@ void tell_links_to_nothing(void)
             continue;
         else if (!names[i].class)
             fault_at("LeftBehind", NULL, "IoCreateSymbolicLink", names[i].made, "the device that the link leads to is deleted");
-        else if (names[i].is_enabled)
-            broken_at("InterfaceEnabled", "IoSetDeviceInterfaceState", names[i].made, "the device is gone, and its interface "
-                      "is still enabled");
+        else
+            tell_enabled(&names[i]);
 }
 
 NTSTATUS WdmIoCreateSymbolicLink(PUNICODE_STRING Link, PUNICODE_STRING Device, WDM_SITE at)
@@ -180,14 +190,49 @@ NTSTATUS WdmIoAttachDeviceByName(PDEVICE_OBJECT Device, PUNICODE_STRING Name, PD
     return *Lower ? STATUS_SUCCESS : target ? STATUS_NO_SUCH_DEVICE : STATUS_OBJECT_NAME_NOT_FOUND;
 }
 
+/* The device's id and that of its instance become its path: `#` stands where a backslash was. */
+void name_instance(PDEVICE_OBJECT device, const char *id, const char *instance)
+{
+    int i = 0;
+    pthread_mutex_lock(&host_lock);
+    touch(&instances, WRITES);
+    while (i < MAX_INSTANCES - 1 && instances[i].device && instances[i].device != device)
+        i++;
+    WCHAR *to = instances[i].path, *end = to + ARRAYSIZE(instances[i].path) - 1;
+    instances[i].device = device;
+    for (; *id && to < end; id++)
+        *to++ = *id == '\\' ? L'#' : (WCHAR)*id;
+    if (to < end)
+        *to++ = L'#';
+    for (; *instance && to < end; instance++)
+        *to++ = *instance == '\\' ? L'#' : (WCHAR)*instance;
+    *to = 0;
+    pthread_mutex_unlock(&host_lock);
+}
+
+/* The path of a device: what the manager asked for, else `WDM` and its number. */
+static void find_path(PDEVICE_OBJECT device, WCHAR *path, size_t size)
+{
+    WdmSwprintf(path, size, L"WDM#%d", device->HostNumber);
+    pthread_mutex_lock(&host_lock);
+    touch(&instances, READS);
+    for (int i = 0; i < MAX_INSTANCES; i++)
+        if (instances[i].device == device)
+            memcpy(path, instances[i].path, sizeof instances[i].path);
+    pthread_mutex_unlock(&host_lock);
+}
+
 /* Interfaces. */
 NTSTATUS WdmIoRegisterDeviceInterface(PDEVICE_OBJECT Device, const GUID *Class, PUNICODE_STRING Reference,
                                       PUNICODE_STRING Link, WDM_SITE at)
 {
-    WCHAR text[120];
+    WCHAR text[MAX_LINK], path[MAX_LINK / 2];
     UNICODE_STRING class, name;
+    find_path(Device, path, ARRAYSIZE(path));
     RtlStringFromGUID(Class, &class);
-    WdmSwprintf(text, ARRAYSIZE(text), L"\\??\\WDM#%d#%wZ%s%wZ", Device->HostNumber, &class,
+    for (size_t i = 0; i < class.Length / sizeof(WCHAR); i++)
+        class.Buffer[i] = (WCHAR)WdmTowlower(class.Buffer[i]);
+    WdmSwprintf(text, ARRAYSIZE(text), L"\\??\\%s#%wZ%s%wZ", path, &class,
                 Reference && Reference->Length ? L"\\" : L"", Reference ? Reference : &(UNICODE_STRING){ 0 });
     RtlFreeUnicodeString(&class);
     RtlInitUnicodeString(&name, text);
@@ -196,6 +241,11 @@ NTSTATUS WdmIoRegisterDeviceInterface(PDEVICE_OBJECT Device, const GUID *Class, 
     const int i = find_name(&name);
     if (i >= 0)
         names[i].class = Class;
+    if (i >= 0 && names[i].leads_nowhere) { /* the device came again */
+        tell_enabled(&names[i]);
+        names[i].device = Device;
+        names[i].is_enabled = names[i].leads_nowhere = false;
+    }
     pthread_mutex_unlock(&host_lock);
     return WdmRtlDuplicate(&name, Link, at);
 }
@@ -244,7 +294,7 @@ NTSTATUS WdmIoGetDeviceInterfaces(const GUID *Class, PDEVICE_OBJECT Device, ULON
 {
     size_t used = 0;
     (void)Flags;
-    PWSTR text = WdmAllocatePool(WDM_POOL_ZERO, (MAX_NAMES * 120 + 1) * sizeof(WCHAR), 0, at);
+    PWSTR text = WdmAllocatePool(WDM_POOL_ZERO, (MAX_NAMES * MAX_LINK + 1) * sizeof(WCHAR), 0, at);
     hold_host("IoGetDeviceInterfaces", &names, READS);
     for (int i = 0; text && i < n_names; i++)
         if (names[i].name.Buffer && names[i].class && names[i].is_enabled && (!Device || names[i].device == Device) &&

@@ -19,7 +19,22 @@ VOID KeLeaveCriticalRegion(VOID)
     leave_host();
 }
 
+/* A guarded region is a critical one that keeps off special APCs too. */
+VOID KeEnterGuardedRegion(VOID)
+{
+    self.guarded_regions++;
+    KeEnterCriticalRegion();
+}
+
+VOID KeLeaveGuardedRegion(VOID)
+{
+    self.guarded_regions -= self.guarded_regions > 0;
+    KeLeaveCriticalRegion();
+}
+
+/* By regions alone; the level counts only for all of them. */
 BOOLEAN KeAreApcsDisabled(VOID) { return self.regions > 0; }
+BOOLEAN KeAreAllApcsDisabled(VOID) { return self.guarded_regions > 0 || self.irql >= APC_LEVEL; }
 
 enum { MAX_READERS = 32 };
 

@@ -45,7 +45,7 @@ static const struct { const char *name; void *routine; } routines[] = {
     ROUTINE(KeQueryTimeIncrement), ROUTINE(KeQueryPerformanceCounter), ROUTINE(KeGetCurrentIrql), ROUTINE(KeCancelTimer),
     ROUTINE(KeInitializeTimerEx), ROUTINE(KeReadStateTimer), ROUTINE(KeReadStateEvent), ROUTINE(KeClearEvent),
     ROUTINE(KeResetEvent), ROUTINE(KeFlushQueuedDpcs), ROUTINE(KeEnterCriticalRegion), ROUTINE(KeLeaveCriticalRegion),
-    ROUTINE(KeAreApcsDisabled), { "KeGetProcessorNumberFromIndex", (void *)get_processor },
+    ROUTINE(KeAreApcsDisabled), ROUTINE(KeAreAllApcsDisabled), { "KeGetProcessorNumberFromIndex", (void *)get_processor },
     { "KeQueryActiveProcessorCountEx", (void *)count_processors }, { "KeQueryMaximumProcessorCountEx", (void *)count_processors },
     ROUTINE(IoGetAttachedDevice), ROUTINE(IoGetRelatedDeviceObject), ROUTINE(IoGetStackLimits), ROUTINE(IoSizeofWorkItem),
     { "IoAllocateWorkItem", (void *)new_work_item }, { "IoInitializeWorkItem", (void *)initialize_item },

@@ -89,6 +89,7 @@ void drop_directory(const void *object);      /* its last handle is closed: unde
 PVOID handle_object(HANDLE handle, POBJECT_TYPE type);
 void tell_references(void);
 void forget_names(PDEVICE_OBJECT device);
+void name_instance(PDEVICE_OBJECT device, const char *id, const char *instance);
 void reinitialize(PDRIVER_OBJECT driver);
 void tell_files_dereferenced(PVOID object);
 

@@ -41,12 +41,12 @@ LONG KeReadStateMutex(PKMUTEX Mutex);
 #define KeReleaseInStackQueuedSpinLockFromDpcLevel(handle) KeReleaseSpinLockFromDpcLevel((handle)->Lock)
 VOID KeEnterCriticalRegion(VOID);
 VOID KeLeaveCriticalRegion(VOID);
+VOID KeEnterGuardedRegion(VOID);
+VOID KeLeaveGuardedRegion(VOID);
 BOOLEAN KeAreApcsDisabled(VOID);
+BOOLEAN KeAreAllApcsDisabled(VOID);
 #define FsRtlEnterFileSystem KeEnterCriticalRegion
 #define FsRtlExitFileSystem KeLeaveCriticalRegion
-#define KeEnterGuardedRegion KeEnterCriticalRegion
-#define KeLeaveGuardedRegion KeLeaveCriticalRegion
-#define KeAreAllApcsDisabled KeAreApcsDisabled
 
 /* Processors: there is one, by its number. */
 #define ALL_PROCESSOR_GROUPS 0xffff

@@ -88,6 +88,8 @@ HANDLE PsGetCurrentThreadId(VOID);
 HANDLE PsGetThreadId(PETHREAD Thread);
 NTSTATUS WdmPsLookupThread(HANDLE Number, PETHREAD *Thread, WDM_SITE at);
 #define PsLookupThreadByThreadId(number, thread) WdmPsLookupThread((number), (thread), WDM_HERE)
+NTSTATUS WdmPsLookupProcess(HANDLE Number, PEPROCESS *Process, WDM_SITE at);
+#define PsLookupProcessByProcessId(number, process) WdmPsLookupProcess((number), (process), WDM_HERE)
 extern PEPROCESS PsInitialSystemProcess;
 #define PsGetCurrentProcessId() ((HANDLE)(ULONG_PTR)4)
 #define PsGetProcessId(process) ((void)(process), PsGetCurrentProcessId())

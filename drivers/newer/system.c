@@ -181,6 +181,32 @@ static VOID AskResource(VOID)
     ZwClose(thread);
 }
 
+/* A critical region keeps off normal APCs alone, a guarded one all of them, as APC_LEVEL does. */
+static VOID AskRegions(VOID)
+{
+    KIRQL before;
+    KeEnterCriticalRegion();
+    WDM_CHECK(KeAreApcsDisabled() && !KeAreAllApcsDisabled());
+    KeEnterGuardedRegion();
+    WDM_CHECK(KeAreApcsDisabled() && KeAreAllApcsDisabled());
+    KeLeaveGuardedRegion();
+    WDM_CHECK(!KeAreAllApcsDisabled());
+    KeLeaveCriticalRegion();
+    WDM_CHECK(!KeAreApcsDisabled());
+    KeRaiseIrql(APC_LEVEL, &before);
+    WDM_CHECK(KeAreAllApcsDisabled());
+    KeLowerIrql(before);
+}
+
+static VOID AskProcess(VOID)
+{
+    PEPROCESS process = NULL;
+    WDM_CHECK(!PsLookupProcessByProcessId(PsGetCurrentProcessId(), &process) && process == PsGetCurrentProcess());
+    if (process)
+        ObDereferenceObject(process);
+    WDM_CHECK(PsLookupProcessByProcessId((HANDLE)1, &process) == STATUS_INVALID_PARAMETER);
+}
+
 static VOID AskLists(VOID)
 {
     NPAGED_LOOKASIDE_LIST list;
@@ -200,6 +226,8 @@ static NTSTATUS Control(PDEVICE_OBJECT DeviceObject, PIRP Irp)
     AskPermanentDirectory();
     AskProcessors();
     AskResource();
+    AskRegions();
+    AskProcess();
     AskLists();
     return Complete(Irp, STATUS_SUCCESS, 0);
 }

@@ -5,7 +5,7 @@
 enum { MAX_CHILDREN = 4 };
 
 typedef enum { STARTED, STOPPED, GONE } STATE;
-typedef struct { BOOLEAN IsChild, IsPresent; STATE State; ULONG Number; PDEVICE_OBJECT Self, Bus; } CHILD, *PCHILD;
+typedef struct { BOOLEAN IsChild, IsPresent; STATE State; ULONG Number; PDEVICE_OBJECT Self, Bus; UNICODE_STRING Link; } CHILD, *PCHILD;
 typedef struct {
     BOOLEAN IsChild;
     PDEVICE_OBJECT Self, Lower, Pdo;
@@ -14,6 +14,7 @@ typedef struct {
     ULONG Count, Made;
 } BUS, *PBUS;
 
+static const GUID OurInterface = { 0x6c3f5a10, 0x41b2, 0x4d0e, { 0x9a, 0x57, 0x2e, 0x10, 0xd8, 0x44, 0x7b, 0x02 } };
 static PBUS TheBus;
 static BOOLEAN WasWrong; /* what the test saw */
 
@@ -78,10 +79,33 @@ static NTSTATUS AnswerId(PCHILD Child, PIRP Irp)
     return Complete(Irp, STATUS_SUCCESS, (ULONG_PTR)text);
 }
 
+/* Windows names a child's interface by the ids that its bus answered; one that comes again has the name again. */
+static VOID OpenInterface(PCHILD Child)
+{
+    WCHAR name[] = L"\\??\\TESTBUS#Port#1#{6c3f5a10-41b2-4d0e-9a57-2e10d8447b02}";
+    UNICODE_STRING wanted;
+    name[17] = (WCHAR)('0' + Child->Number);
+    RtlInitUnicodeString(&wanted, name);
+    if (Child->Link.Buffer || !NT_SUCCESS(IoRegisterDeviceInterface(Child->Self, &OurInterface, NULL, &Child->Link)))
+        return;
+    WasWrong |= !RtlEqualUnicodeString(&wanted, &Child->Link, FALSE);
+    IoSetDeviceInterfaceState(&Child->Link, TRUE);
+}
+
+static VOID CloseInterface(PCHILD Child)
+{
+    if (Child->Link.Buffer == NULL)
+        return;
+    IoSetDeviceInterfaceState(&Child->Link, FALSE);
+    RtlFreeUnicodeString(&Child->Link);
+    Child->Link.Buffer = NULL;
+}
+
 static NTSTATUS RemoveChild(PCHILD Child, PIRP Irp)
 {
     const BOOLEAN goes = !Child->IsPresent;
     PDEVICE_OBJECT device = Child->Self;
+    CloseInterface(Child);
     Child->State = GONE;
     if (goes)
         ForgetChild(Child->Bus->DeviceExtension, device);
@@ -97,6 +121,7 @@ static NTSTATUS ChildPnp(PCHILD Child, PIRP Irp)
     switch (stack->MinorFunction) {
     case IRP_MN_START_DEVICE:
         Child->State = STARTED;
+        OpenInterface(Child);
         return Complete(Irp, STATUS_SUCCESS, 0);
     case IRP_MN_STOP_DEVICE:
         Child->State = STOPPED;
@@ -113,6 +138,7 @@ static NTSTATUS ChildPnp(PCHILD Child, PIRP Irp)
         return AnswerId(Child, Irp);
     case IRP_MN_QUERY_CAPABILITIES:
         stack->Parameters.DeviceCapabilities.Capabilities->SurpriseRemovalOK = TRUE;
+        stack->Parameters.DeviceCapabilities.Capabilities->UniqueID = TRUE;
         return Complete(Irp, STATUS_SUCCESS, 0);
     case IRP_MN_REMOVE_DEVICE:
         return RemoveChild(Child, Irp);

@@ -83,6 +83,37 @@ def without_dispatches(script):
             yield it
 
 
+def without_cancels(script):
+    """Lacks the last cancel routine; a script that names it can't be played then."""
+    if script["cancels"]:
+        it = copy(script)
+        del it["cancels"][-1]
+        yield it
+
+
+def with_simpler_routines(script):
+    """Has a completion routine that continues where another kept the packet or changed its status."""
+    for k, (_, *does) in enumerate(script["completions"]):
+        for n, behaviour in enumerate(does, 1):
+            if behaviour != "continue":
+                it = copy(script)
+                it["completions"][k][n] = "continue"
+                yield it
+
+
+def with_less_room(script):
+    """Has fewer seats, locks or slots, or a packet with a location less."""
+    for key in ("seats", "locks", "slots"):
+        for fewer in {0, 1, 2, script.get(key, 0) // 2, script.get(key, 0) - 1}:
+            if 0 <= fewer < script.get(key, 0):
+                yield dict(copy(script), **{key: fewer})
+    for k, step in enumerate(script["steps"]):
+        if step.get("size", 0) > 1:
+            it = copy(script)
+            it["steps"][k]["size"] -= 1
+            yield it
+
+
 def without_drivers(script):
     """Lacks a driver that no device is of."""
     for k in range(len(script["drivers"])):
@@ -106,11 +137,12 @@ def simple(value):
 def places(script):
     """Yields where numbers and flags stand."""
     for k, step in enumerate(script["steps"]):
-        yield from (("steps", k, key) for key in ("word", "information", "status", "size", "seat") if key in step)
+        yield from (("steps", k, key) for key in ("word", "information", "status", "lock", "size", "seat") if key in step)
         yield from (("steps", k, "set", n) for n in (2, 3) if "set" in step)
     for k, plan in enumerate(script["dispatches"]):
         yield from (("dispatches", k, n) for n in (1, 2) if plan[0] == "finish")
         yield from (("dispatches", k, 1, n) for n in (2, 3) if plan[0].startswith("forward") and plan[1])
+    yield from (("cancels", k, 1) for k, it in enumerate(script["cancels"]) if it[0] == "finish")
     for k, (_, *does) in enumerate(script["completions"]):
         yield from (("completions", k, m, n) for m, it in enumerate(does, 1) if it[0] == "replace" for n in (1, 2))
 
@@ -139,7 +171,8 @@ def simpler(script):
                 yield it
 
 
-WAYS = (without_steps, without_devices, without_completions, without_dispatches, without_drivers, simpler)
+WAYS = (without_steps, without_devices, without_completions, with_simpler_routines, without_cancels, without_dispatches, without_drivers,
+        simpler, with_less_room)
 
 
 def text_of(script):

@@ -156,15 +156,37 @@ WAITS = ("1668", "1694", "1703", *(f"{line}@{caller}" for line in (1438, 1441, 1
 FAILS = {
     "driver.c": {
         "451": "there is one process, the system's",
-        "498": "APCs count as disabled at no level; Windows shows both", "2030": ONE, "2054": ONE,
+        "498": "a dispatch has no APCs disabled here; Windows shows both", "2030": ONE, "2054": ONE,
         **dict.fromkeys(WAITS, "on a slow machine: the thread that it waits a moment for hasn't come"),
     },
-    "driver_pnp.c": {
-        **dict.fromkeys(("290", "292", "294"), "an interface of a device has another name here"),
-        **dict.fromkeys(("308", "317", "318"), "without a manager (pnp.c): the child goes in another order"),
-        "400": "without a manager (pnp.c): nobody plugs",
-        "587": "an instance has another name here",
-        **dict.fromkeys(("756", "801", "802"), "without a manager (pnp.c): it is removed while a file is open"),
-    },
-    "driver_netio.c": dict.fromkeys(("307", "308", "309", "375"), "in the run in which nobody connects"),
 }
+CALL = re.compile(r"\b([A-Z][a-z]+[A-Z]\w*)\s*\(|get_proc_address\(\"(\w+)\"\)")
+# What driver.c calls, or asks for by its name, and why the host hasn't it.
+NO_PAGE = "no page of the kit has it"
+NOT_THERE = {
+    **dict.fromkeys(("FltBuildDefaultSecurityDescriptor", "FltFreeSecurityDescriptor"), "there is no filter manager"),
+    **dict.fromkeys(("PsSetLoadImageNotifyRoutine", "PsRemoveLoadImageNotifyRoutine"), "no image is loaded, so nothing would call it"),
+    **dict.fromkeys(("ZwLoadDriver", "ZwUnloadDriver"), "the test loads all drivers"),
+    **dict.fromkeys(("MmCopyVirtualMemory", "PsGetProcessInheritedFromUniqueProcessId", "PsGetProcessSectionBaseAddress"), NO_PAGE),
+    "ZwQueryInformationProcess": "there is one process",
+    "ZwQueryObject": "drivers call ObQueryNameString, which is there",
+}
+
+
+def words_of(path):
+    with open(path, encoding="utf-8") as it:
+        return set(re.findall(r"\w+", it.read()))
+
+
+def tell_functions(source, drivers):
+    """Prints how many functions driver.c calls, and those that the host hasn't. Returns what NOT_THERE says wrongly."""
+    called = {a or b for a, b in CALL.findall("\n".join(read(source, "driver.c")))}
+    words = words_of(drivers + "/host/system_routines.c")
+    for folder, _, files in os.walk(drivers + "/include"):
+        words = words.union(*(words_of(f"{folder}/{it}") for it in files))
+    lacks = called - words
+    print(f"driver.c calls {len(called)} functions, of which {len(lacks)} aren't there")
+    for name in sorted(lacks):
+        print(f"  {name}: {NOT_THERE.get(name, 'NEW')}")
+    return [f"{name} isn't there, and isn't listed" for name in sorted(lacks - NOT_THERE.keys())] + \
+        [f"{name} is there by now: take it out of NOT_THERE" for name in sorted(NOT_THERE.keys() - lacks)]
