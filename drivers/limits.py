@@ -109,8 +109,10 @@ static NTSTATUS Add(PDRIVER_OBJECT DriverObject, PDEVICE_OBJECT Pdo)
     PDEVICE_OBJECT device, *ext;
     NTSTATUS status = IoCreateDevice(DriverObject, 15 * sizeof device, NULL, FILE_DEVICE_UNKNOWN, 0, FALSE, &device);
     ext = device->DeviceExtension;
-    for (int i = 0; i < 14; i++)
+    for (int i = 0; i < 14; i++) {
         IoCreateDevice(DriverObject, 0, NULL, FILE_DEVICE_UNKNOWN, 0, FALSE, &ext[i]);
+        ext[i]->Flags &= ~(ULONG)DO_DEVICE_INITIALIZING;
+    }
     ext[14] = IoAttachDeviceToDeviceStack(device, Pdo);
     device->Flags &= ~(ULONG)DO_DEVICE_INITIALIZING;
     return status;
