@@ -165,6 +165,9 @@ def build(compiler, flags, named, library, folder, link_flags=(), libraries=(), 
         raise Stop("two drivers have the same name: " + ", ".join(sorted({it for it in names if names.count(it) > 1})))
     exporting = {stem(it) for it in libraries}
     os.makedirs(folder + "/parts", exist_ok=True)
+    paged = [(of, *row) for of, files in [*((f"{name}_DriverEntry", files) for name, files in drivers), ("0", others)]
+             for row in pageable.rows(compiler, flags, files)]
+    flags = [*flags, *pageable.FLAGS] if paged else flags
     compiled = lambda source, made, *more: compiling.compiled([compiler, *flags, *more], source, made)
     objects, units, apart = [], [], []
     for number, (name, files) in enumerate(drivers):
@@ -183,8 +186,6 @@ def build(compiler, flags, named, library, folder, link_flags=(), libraries=(), 
     for made, (name, _, _), keep in zip(objects, units, shared_names(units, apart, exporting)):
         localize(made, name, keep - {"DriverEntry"})
     table = folder + "/drivers.c"
-    paged = [(of, *row) for of, files in [*((f"{name}_DriverEntry", files) for name, files in drivers), ("0", others)]
-             for row in pageable.rows(compiler, flags, files)]
     write_table(table, drivers, len(drivers) == 1 and any("DriverEntry" in wanted for _, wanted in apart), paged)
     added = {"main": [], "tests": [NAMED_TESTS], "": own_test}
     for source in (table, *(f"{HERE}/host/{it}" for it in added[kind])):

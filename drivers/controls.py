@@ -12,6 +12,7 @@ MARK = "wdm_ctl_code"
 MARKED = f"#include <wdm.h>\n#undef CTL_CODE\n#define CTL_CODE(device, function, method, access) {MARK}(device, function, method, access)\n"
 NAMED = r"((?!STATUS_)[A-Za-z_]\w*(?:\([^()]*\))?)"  # a macro or an enum's constant, or a macro with its arguments
 OWN_INTERNAL = re.compile(r"\[\s*IRP_MJ_INTERNAL_DEVICE_CONTROL\s*\]\s*=")
+TAKEN = re.compile(r"\bObReferenceObjectByHandle\s*\(\s*([^,;]+?)\s*,")
 TIMES = 4  # that a source is compiled at most: each time without what isn't constant
 
 
@@ -49,6 +50,18 @@ def internals(sources):
     if not any(OWN_INTERNAL.search(it) for it in texts):
         return None
     return "0" if any("Others.Argument" in it for it in texts) else "1"
+
+
+def takes_handles(sources):
+    """Whether a source takes an object by a handle that no call of its own has given it: one that it is sent."""
+    for source in sources:
+        with open(source, encoding="utf-8", errors="replace") as it:
+            text = it.read()
+        for handle in TAKEN.findall(text):
+            own = re.sub(r"^\(\s*HANDLE\s*\)", "", handle).strip()
+            if not re.search(rf"\b(?:Ps|Zw|Nt|Io|Ob)\w+\s*\([^;]*&\s*\(?\s*{re.escape(own)}\s*\)?\s*[,)]", text):
+                return True
+    return False
 
 
 def expressions(compiler, flags, source, text):

@@ -85,6 +85,51 @@ int main(int argc, char **argv)
     return WdmFinish();
 }
 """
+# A driver each of whose devices stands on the bottom device beside many others: five such stacks have more than a history may.
+MANY_IN_A_STACK = """#include <wdm.h>
+
+static NTSTATUS Pass(PDEVICE_OBJECT DeviceObject, PIRP Irp)
+{
+    PDEVICE_OBJECT *ext = DeviceObject->DeviceExtension;
+    const PIO_STACK_LOCATION stack = IoGetCurrentIrpStackLocation(Irp);
+    const BOOLEAN goes = stack->MajorFunction == IRP_MJ_PNP && stack->MinorFunction == IRP_MN_REMOVE_DEVICE;
+    IoSkipCurrentIrpStackLocation(Irp);
+    const NTSTATUS status = IoCallDriver(ext[14], Irp);
+    for (int i = 0; goes && i < 14; i++)
+        IoDeleteDevice(ext[i]);
+    if (goes) {
+        IoDetachDevice(ext[14]);
+        IoDeleteDevice(DeviceObject);
+    }
+    return status;
+}
+
+static NTSTATUS Add(PDRIVER_OBJECT DriverObject, PDEVICE_OBJECT Pdo)
+{
+    PDEVICE_OBJECT device, *ext;
+    NTSTATUS status = IoCreateDevice(DriverObject, 15 * sizeof device, NULL, FILE_DEVICE_UNKNOWN, 0, FALSE, &device);
+    ext = device->DeviceExtension;
+    for (int i = 0; i < 14; i++) {
+        IoCreateDevice(DriverObject, 0, NULL, FILE_DEVICE_UNKNOWN, 0, FALSE, &ext[i]);
+        ext[i]->Flags &= ~(ULONG)DO_DEVICE_INITIALIZING;
+    }
+    ext[14] = IoAttachDeviceToDeviceStack(device, Pdo);
+    device->Flags &= ~(ULONG)DO_DEVICE_INITIALIZING;
+    return status;
+}
+
+static VOID Unload(PDRIVER_OBJECT DriverObject) { UNREFERENCED_PARAMETER(DriverObject); }
+
+NTSTATUS DriverEntry(PDRIVER_OBJECT DriverObject, PUNICODE_STRING RegistryPath)
+{
+    UNREFERENCED_PARAMETER(RegistryPath);
+    for (int i = 0; i <= IRP_MJ_MAXIMUM_FUNCTION; i++)
+        DriverObject->MajorFunction[i] = Pass;
+    DriverObject->DriverExtension->AddDevice = Add;
+    DriverObject->DriverUnload = Unload;
+    return STATUS_SUCCESS;
+}
+"""
 NOT_FURTHER = "not tried further: the run has as many scheduling points as --points says"
 
 
@@ -116,6 +161,8 @@ def tests(bench):
     yield "70 threads at once", wrong(told, 3, "not tried further: more than 32 threads at once under a schedule: let its test begin")
     told = ran(bench, "many devices", MANY, "--shake", "1", "--args", "devices")
     yield "70 devices one after the other", wrong(told, 3, "not tried further: 64 devices in one run")
+    told = ran(bench, "many devices in a stack", MANY_IN_A_STACK)
+    yield "a stack of 16 devices, five times", wrong(told, 0, "a device below that doesn't start: the stacks before it have had most")
     told = ran(bench, "few points", MANY, "--seeds", "1..2", "--points", "100")
     yield "a run with too many points, by seeds", wrong(told, 3, NOT_FURTHER, "0 of 2 runs are clean, 2 reached a limit")
     told = ran(bench, "few points, every order", MANY, "--every-order", "--judge", "1", "--points", "100")

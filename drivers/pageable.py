@@ -1,6 +1,7 @@
 """Tells which functions a driver's sources put into pageable sections: by `#pragma alloc_text`, or between two of
 `#pragma code_seg`. The host has their names by a table of the program (host/pageable.c)."""
 
+import os
 import re
 import subprocess
 
@@ -8,6 +9,10 @@ PRAGMA = re.compile(r"#\s*pragma\s+(alloc_text|code_seg)\s*\(([^()]*)\)")
 LOCKS = re.compile(r"\bMm(Lock\w*Code|Lock\w*Section|ResetDriverPaging|PageEntireDriver)")
 TEXT = re.compile(r'"(?:\\.|[^"\\\n])*"|' r"'(?:\\.|[^'\\\n])*'")
 FUNCTION = re.compile(r"(\w+)\s*\((?:[^(){}]|\([^(){}]*\))*\)\s*$")
+
+
+# A function that makes no call of the host's says that it ran.
+FLAGS = ["-finstrument-functions", f"-finstrument-functions-exclude-file-list={os.path.dirname(os.path.abspath(__file__))}/include/"]
 
 
 def is_paged(section):

@@ -330,6 +330,9 @@ BUGS = [("holds", 1, "power comes back, and what is held isn't answered", "NotRe
         ("answers", 2, "a block that isn't set goes to a program", "Unwritten", "Unwritten", "a block that isn't set was copied to"),
         ("answers", 3, "an open with a name is completed twice", "CompletedTwice", None, "in Complete"),
         ("answers", 4, "a length of the input is trusted", "PoolOverrun", "PoolOverrun", "in TakeName", "--page-ends"),
+        ("signals", 1, "an object of any type is taken by a program's handle", "HandleType", "HandleType", "with NULL in place of a type"),
+        ("signals", 3, "a program's event is never given back", "LeftBehind", "HandleType", "a reference to a program's event"),
+        ("signals", 4, "a program's handle is taken in a work item", "HandleContext", "HandleType", "in a thread that isn't the program's"),
         ("inside", 1, "an internal control is completed twice", "CompletedTwice", "CompletedTwice", "in Complete"),
         ("inside", 2, "an internal control beside itself", "BugCheck", None, "in Inside",
          "--every-order", "--processes", "1", "--judge", "1")]
@@ -374,6 +377,6 @@ def tests(bench):
             ("own test, a buffer's flag", lambda: with_its_flag(bench)),
             ("own test, codes", lambda: codes(bench)),
             ("own test, inside", lambda: inside(bench)),
-            *((f"own test, bugs of {it}", lambda it=it: bugs(bench, it)) for it in ("holds", "usage", "waits", "adds", "answers", "inside")),
+            *((f"own test, bugs of {it}", lambda it=it: bugs(bench, it)) for it in ("holds", "usage", "waits", "adds", "answers", "signals", "inside")),
             ("own test, children", lambda: children(bench)),
             *((f"own test, stack {it}", lambda it=it: silent(bench, it)) for it in planted.FOR_OWN_TEST)]

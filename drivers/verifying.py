@@ -11,13 +11,14 @@ import sys
 import time
 
 import covering
+import pageable
 import reporting
 import usage
 
 SEEDS_OF_REFUSALS = 4
 RUNS_A_PROCESSOR = 2  # side by side: a run waits more than it works
 PATIENCE = 10  # seconds: runs stand side by side, and one that gets no processor for a while doesn't hang
-FLAGS = ["-finstrument-functions", f"-finstrument-functions-exclude-file-list={os.path.dirname(os.path.abspath(__file__))}/include/"]
+FLAGS = pageable.FLAGS
 # What is told of memory is told best where pages end with blocks: at the line itself.
 MEMORY = ("PoolOverrun", "WrittenAfterFree", "UsedAfterFree")
 MOST_NOTES = 20  # that are told

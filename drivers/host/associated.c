@@ -35,6 +35,7 @@ void associated_ended(Packet *p)
     if (raw->AssociatedIrp.IrpCount != 0)
         return;
     settle(master, false);
+    put_status_back(master);
     complete(master, master->owner, (ULONG)raw->IoStatus.Status, raw->IoStatus.Information);
 }
 

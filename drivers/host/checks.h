@@ -21,9 +21,20 @@ enum { FRESH_BYTE = 0xCD }; /* what a new block of pool is full of */
 void fill_behind_input(Packet *p, size_t input);
 void check_written(const Packet *p, int by, size_t input, uint64_t information);
 
+/* status.c */
+void expect_status(Packet *p);
+bool put_status_back(Packet *p);
+void check_status_set(Packet *p, int by);
+
+/* sent_handles.c: whether the host's own test has sent a handle of it; a driver takes it by that; what was never given back. */
+bool is_sent_handle(const void *object);
+NTSTATUS check_sent_handle(const void *object, POBJECT_TYPE type);
+void tell_sent_left(int driver);
+
 /* pageable.c */
 void check_pageable_call(const Call *c);
 void check_pageable_routine(const Frame *f);
+void check_pageable_function(const void *fn, const void *caller); /* takes G and gives it back */
 
 /* locks.c: who holds which lock, and in which order locks are taken. */
 typedef enum { SPIN_LOCK, CANCEL_LOCK, FAST_LOCK, MUTEX_OBJECT, SHARED_SPIN, PUSH_LOCK } LockKind;
@@ -74,6 +85,7 @@ bool get_pages(Block *b);
 void close_pages(Block *b);
 void close_until_probed(Block *b, bool is_programs);
 void probed(const void *address);
+bool is_unprobed(const void *address);
 void close_paged(void);
 void lock_block(const void *address, int change);
 bool touched_block(void *address);

@@ -231,6 +231,8 @@ VOID WdmIoCompleteRequest(PIRP Irp, WDM_SITE at)
     }
     const int by = party_with_location(p);
     const bool live = lives(p);
+    if (live)
+        check_status_set(p, by);
     const ULONG status = live ? (ULONG)Irp->IoStatus.Status : 0;
     const uint64_t information = live ? Irp->IoStatus.Information : 0;
     const bool good = rules_completable(status);

@@ -101,6 +101,33 @@ static void use_numbers(PDEVICE_OBJECT top)
         }
 }
 
+/* Each control has this handle in its input. */
+static void send_handle(PDEVICE_OBJECT top, HANDLE handle)
+{
+    static const ULONG lengths[] = { 8, 16, 24, 32, 40 };
+    numbers_are_handles = TRUE;
+    for (int i = 0; handle && i < n_controls; i++)
+        for (size_t n = 0; controls[i].major == IRP_MJ_DEVICE_CONTROL && n < ARRAYSIZE(lengths); n++) {
+            What what = control(i, lengths[n]);
+            what.number = (ULONG)(ULONG_PTR)handle;
+            make_request(top, what, PLAIN, SHORTLY);
+            made(SITUATION_HANDLES);
+        }
+    numbers_are_handles = FALSE;
+}
+
+/* Where a driver takes objects by handles that it is sent: an event's, a file's, and one that is closed. */
+static void use_handles(PDEVICE_OBJECT top, PFILE_OBJECT file)
+{
+    HANDLE handles[2];
+    if (!getenv("WDM_HANDLES") || !make_sent_handles(file, handles))
+        return;
+    send_handle(top, handles[0]);
+    send_handle(top, handles[1]);
+    close_sent_handles(handles);
+    send_handle(top, handles[0]);
+}
+
 static void send_one(PDEVICE_OBJECT top, What what, Situation s)
 {
     make_request(top, what, PLAIN, PATIENT);
@@ -196,6 +223,8 @@ static void use_started(ULONG style, int threads)
         use_by_threads(top, threads);
     if (style & WDM_BOTTOM_PENDS_ALL)
         use_numbers(top);
+    if (!style && !is_short)
+        use_handles(top, o.file);
     sleep_and_wake(top);
     if (!style && !is_short) {
         use_in_d3(top);
@@ -209,6 +238,12 @@ static void use_started(ULONG style, int threads)
 
 static void use_stack(ULONG style, Situation its, int threads)
 {
+    static ULONG most; /* devices that a stack takes */
+    const ULONG left = devices_left();
+    if (left < most) {
+        not_made(its, "the stacks before it have had most of the 64 devices of a history");
+        return;
+    }
     bottom = WdmCreateBottomOf(style);
     if (!bottom)
         return;
@@ -226,6 +261,7 @@ static void use_stack(ULONG style, Situation its, int threads)
     PDEVICE_OBJECT its_own = bottom;
     bottom = NULL;
     IoDeleteDevice(its_own);
+    most = max(most, left - devices_left());
 }
 
 /* A driver that made its device in DriverEntry. */
@@ -234,8 +270,10 @@ static void use_device(PDEVICE_OBJECT device, int threads)
     Opened o = use(device, TRUE);
     if (threads > 1)
         use_by_threads(device, threads);
-    if (!is_short)
+    if (!is_short) {
         use_numbers(device);
+        use_handles(device, o.file);
+    }
     close_it(o);
 }
 

@@ -41,4 +41,5 @@ void tell_left(int driver)
     tell_timers_left(driver);
     tell_threads_left(driver);
     tell_links_left(driver);
+    tell_sent_left(driver);
 }

@@ -129,11 +129,14 @@ VOID WdmMmBuildMdlForNonPagedPool(PMDL Mdl, WDM_SITE at)
     leave_host();
 }
 
-VOID WdmMmProbeAndLockPages(PMDL Mdl, LOCK_OPERATION Operation, WDM_SITE at)
+VOID WdmMmProbeAndLockPages(PMDL Mdl, KPROCESSOR_MODE Mode, LOCK_OPERATION Operation, WDM_SITE at)
 {
     Call c;
     enter_host(&c, "MmProbeAndLockPages", at);
     touch_memory(Mdl, sizeof *Mdl, WRITES);
+    if (Mode == KernelMode && is_unprobed(MmGetMdlVirtualAddress(Mdl)))
+        broken("Unprobed", NULL, "a program's pointer, of a METHOD_NEITHER control, is locked with KernelMode, which probes nothing: "
+               "hand over Irp->RequestorMode");
     probed(MmGetMdlVirtualAddress(Mdl));
     if (Mdl->MdlFlags & (MDL_PAGES_LOCKED | MDL_SOURCE_IS_NONPAGED_POOL | MDL_PARTIAL))
         fault("MdlLocked", NULL, "the pages of an MDL are locked that was %s",

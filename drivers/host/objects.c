@@ -53,6 +53,15 @@ bool is_referenced(PVOID object)
     return false;
 }
 
+/* Under G. */
+WDM_SITE reference_of(const void *object)
+{
+    for (int i = 0; object && i < n_references; i++)
+        if (references[i].object == object && references[i].count > 0)
+            return references[i].taken;
+    return (WDM_SITE){ 0 };
+}
+
 LONG_PTR WdmObReferenceObject(PVOID Object, WDM_SITE at)
 {
     Call c;
@@ -152,6 +161,15 @@ PVOID handle_object(HANDLE handle, POBJECT_TYPE type)
     return object;
 }
 
+void forget_handle(HANDLE handle)
+{
+    const ULONG_PTR i = (ULONG_PTR)handle / 4 - 1;
+    hold_host("a handle is closed", &handles, SYNCS);
+    if (i < MAX_HANDLES)
+        handles[i].object = NULL;
+    pthread_mutex_unlock(&host_lock);
+}
+
 NTSTATUS WdmZwClose(HANDLE Handle, WDM_SITE at)
 {
     Call c;
@@ -178,11 +196,20 @@ NTSTATUS WdmZwClose(HANDLE Handle, WDM_SITE at)
 
 NTSTATUS WdmObReferenceObjectByHandle(HANDLE Handle, POBJECT_TYPE Type, PVOID *Object, WDM_SITE at)
 {
-    *Object = handle_object(Handle, Type);
-    if (!*Object)
-        return handle_object(Handle, NULL) ? STATUS_OBJECT_TYPE_MISMATCH : STATUS_INVALID_HANDLE;
-    WdmObReferenceObject(*Object, at);
-    return STATUS_SUCCESS;
+    PVOID object = handle_object(Handle, Type);
+    NTSTATUS status = object ? STATUS_SUCCESS : handle_object(Handle, NULL) ? STATUS_OBJECT_TYPE_MISMATCH : STATUS_INVALID_HANDLE;
+    *Object = NULL;
+    if (is_sent_handle(object)) {
+        Call c;
+        enter_host(&c, "ObReferenceObjectByHandle", at);
+        status = check_sent_handle(object, Type);
+        leave_host();
+    }
+    if (NT_SUCCESS(status)) {
+        *Object = object;
+        WdmObReferenceObject(object, at);
+    }
+    return status;
 }
 
 NTSTATUS WdmZwDuplicateObject(HANDLE Handle, PHANDLE Other, BOOLEAN Closes, WDM_SITE at)

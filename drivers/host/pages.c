@@ -128,6 +128,13 @@ void probed(const void *address)
         open_pages(b);
 }
 
+/* Whether it is a program's, and nobody has probed it. */
+bool is_unprobed(const void *address)
+{
+    const Block *b = block_in_pages(address);
+    return b && b->unprobed && b->is_programs;
+}
+
 /* A touch of a paged block that may be made: the level is low, or the host makes it, for which Windows has a low one. */
 static bool is_let_in(Block *b, const char *at)
 {

@@ -1,4 +1,5 @@
-/* ran.c: which functions of drivers ran, where they are compiled with -finstrument-functions: for the sum of many runs. */
+/* ran.c: which functions of drivers ran, where they are compiled with -finstrument-functions: for the sum of many runs, and where a driver
+   has pageable code. */
 #include "host.h"
 
 void __cyg_profile_func_enter(void *fn, void *caller);
@@ -10,4 +11,4 @@ void __cyg_profile_func_enter(void *fn, void *caller)
     function_ran(fn);
 }
 
-void __cyg_profile_func_exit(void *fn, void *caller) { (void)fn, (void)caller; }
+void __cyg_profile_func_exit(void *fn, void *caller) { check_pageable_function(fn, caller); }

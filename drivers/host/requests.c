@@ -9,7 +9,7 @@ enum { MOST_CONTROLS = 256, NOT_KNOWN = CTL_CODE(FILE_DEVICE_UNKNOWN, 0x7ff, MET
 enum { ROOM_INSIDE = 4096 }; /* bytes of an internal control */
 Control controls[MOST_CONTROLS];
 int n_controls;
-BOOLEAN files_have_context;
+BOOLEAN files_have_context, numbers_are_handles;
 PDEVICE_OBJECT bottom;
 
 What control(int i, ULONG length)
@@ -53,7 +53,7 @@ BOOLEAN start_request(Request *r, PDEVICE_OBJECT top, What what, How how)
     if (is_control(what.major))
         IoGetNextIrpStackLocation(r->irp)->Parameters.DeviceIoControl.IoControlCode = what.code;
     for (ULONG i = 0; what.number && i < what.length / sizeof(ULONG); i++)
-        ((PULONG)r->irp->UserBuffer)[i] = what.number;
+        ((PULONG)r->irp->UserBuffer)[i] = numbers_are_handles && i % 2 ? 0 : what.number;
     if (what.major == IRP_MJ_DEVICE_CONTROL && what.length == ANSWER_IS_LONGER)
         IoGetNextIrpStackLocation(r->irp)->Parameters.DeviceIoControl.InputBufferLength = 16;
     const BOOLEAN is_internal = what.major == IRP_MJ_INTERNAL_DEVICE_CONTROL;
@@ -193,6 +193,10 @@ static void tell_controls(PDEVICE_OBJECT top)
                      "no driver took a control code: give --controls");
     if (n_controls)
         made(SITUATION_CONTROLS);
+    if (!getenv("WDM_HANDLES"))
+        not_there(SITUATION_HANDLES, "the source takes no object by a handle that it is sent");
+    else if (!n_controls)
+        not_made(SITUATION_HANDLES, "no driver took a control code: give --controls");
     if (!n_controls || controls[0].major != IRP_MJ_DEVICE_CONTROL)
         not_there(SITUATION_NUMBERS, "no driver takes a control from programs");
 }

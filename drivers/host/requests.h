@@ -52,6 +52,9 @@ void keep_own_packets(BOOLEAN keeps);
 ULONG next_timer_asleep(void);
 unsigned long timers_rung_asleep(void);
 
+/* limits.c: how many devices drivers and the host may make yet. */
+ULONG devices_left(void);
+
 /* files.c: opens the device with a name behind its own. */
 PFILE_OBJECT WdmOpenBehind(PDEVICE_OBJECT Top, PCWSTR Name, WDM_SITE at);
 
@@ -63,6 +66,10 @@ BOOLEAN WdmHaveRemoveLocks(PDEVICE_OBJECT Top, PDEVICE_OBJECT Bottom);
 BOOLEAN WdmIsKept(PIRP Irp);
 VOID WdmTellKept(PIRP Irp);
 VOID WdmTellHeld(PIRP Irp, const char *Over);
+
+/* sent_handles.c: handles of a program, of an event and of this file. */
+BOOLEAN make_sent_handles(PFILE_OBJECT file, HANDLE made[2]);
+void close_sent_handles(const HANDLE made[2]);
 
 /* What is asked for, and what a control of the i-th code asks for. An internal one, of another driver, has room for whatever
    its code may need. */
@@ -94,6 +101,7 @@ void compare_answers(PDEVICE_OBJECT top, const char *over);
 extern Control controls[];
 extern int n_controls;
 extern BOOLEAN files_have_context; /* then another driver's request has a file too */
+extern BOOLEAN numbers_are_handles; /* then a request's number fills each eight bytes of its input, and not each four */
 void read_controls(void);
 void find_controls(PDEVICE_OBJECT top);
 

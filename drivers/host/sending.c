@@ -200,6 +200,7 @@ NTSTATUS WdmIoCallDriver(PDEVICE_OBJECT Target, PIRP Irp, WDM_SITE at)
     if (lives(p) && p->owner == ORIGINATOR) {
         give_mdl(p);
         tell_own_cancel(p);
+        expect_status(p);
         request_sent(p);
     }
     const uint64_t use = p->use;

@@ -13,6 +13,7 @@
     ROW(LENGTHS, "short, odd and large buffers", ANY) \
     ROW(CONTROLS, "each control code that the source names", ANY) \
     ROW(NUMBERS, "large numbers in the input of controls", ANY) \
+    ROW(HANDLES, "handles of events and files in the input of controls", ANY) \
     ROW(INTERNAL, "an internal control", ANY) \
     ROW(INTERNALS, "each internal control that the source names", ANY) \
     ROW(FLUSHED, "a flush", ANY) \

@@ -79,6 +79,8 @@ void tell_packet_leaks(void);
 
 /* objects.c, mdl.c, start_io.c: what wdm_ob.h, wdm_mm.h and wdm_hw.h have */
 bool is_referenced(PVOID object);
+WDM_SITE reference_of(const void *object); /* where the last one was taken, while there is one */
+void forget_handle(HANDLE handle);         /* it is closed, and what it is of stays */
 HANDLE new_handle(POBJECT_TYPE type, PVOID object);
 POBJECT_TYPE type_by_handles(const void *object);
 bool is_thread_of_driver(const void *object);

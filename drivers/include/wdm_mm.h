@@ -56,11 +56,11 @@ PVOID WdmMmMapMdl(PMDL Mdl, BOOLEAN MayFail, WDM_SITE at);
 #define MmMapLockedPagesSpecifyCache(mdl, mode, cache, base, bug, priority) \
     ((void)(mode), (void)(cache), (void)(base), (void)(priority), WdmMmMapMdl((mdl), !(bug), WDM_HERE))
 VOID WdmMmUnmapLockedPages(PVOID Base, PMDL Mdl, WDM_SITE at);
-VOID WdmMmProbeAndLockPages(PMDL Mdl, LOCK_OPERATION Operation, WDM_SITE at);
+VOID WdmMmProbeAndLockPages(PMDL Mdl, KPROCESSOR_MODE Mode, LOCK_OPERATION Operation, WDM_SITE at);
 VOID WdmMmUnlockPages(PMDL Mdl, WDM_SITE at);
 VOID WdmMmBuildMdlForNonPagedPool(PMDL Mdl, WDM_SITE at);
 #define MmUnmapLockedPages(base, mdl) WdmMmUnmapLockedPages((base), (mdl), WDM_HERE)
-#define MmProbeAndLockPages(mdl, mode, operation) ((void)(mode), WdmMmProbeAndLockPages((mdl), (operation), WDM_HERE))
+#define MmProbeAndLockPages(mdl, mode, operation) WdmMmProbeAndLockPages((mdl), (KPROCESSOR_MODE)(mode), (operation), WDM_HERE)
 #define MmUnlockPages(mdl) WdmMmUnlockPages((mdl), WDM_HERE)
 #define MmBuildMdlForNonPagedPool(mdl) WdmMmBuildMdlForNonPagedPool((mdl), WDM_HERE)
 #define MmPrepareMdlForReuse(mdl) ((void)(mdl))

@@ -4,7 +4,9 @@
 static NTSTATUS PagedTakesLock(PEXTENSION Ext, PIRP Irp, BOOLEAN Wrong);
 static VOID PagedDeferred(PKDPC Dpc, PVOID Context, PVOID A, PVOID B);
 #pragma alloc_text(PAGE, PagedTakesLock)
+static LONG PagedSum(PEXTENSION Ext, LONG More);
 #pragma alloc_text(PAGE, PagedDeferred)
+#pragma alloc_text(PAGE, PagedSum)
 
 /* A wait in a deferred call. With a limit of zero it takes no time, and is right. */
 static VOID Waits(PKDPC Dpc, PVOID Context, PVOID A, PVOID B)
@@ -179,10 +181,24 @@ static NTSTATUS PagedTakesLock(PEXTENSION Ext, PIRP Irp, BOOLEAN Wrong)
 }
 
 static VOID PagedDeferred(PKDPC Dpc, PVOID Context, PVOID A, PVOID B)
-{
+{ /* told: PageableCode_Deferred */
     PEXTENSION ext = Context;
     UNREFERENCED_PARAMETER(Dpc), UNREFERENCED_PARAMETER(A), UNREFERENCED_PARAMETER(B);
-    InterlockedIncrement(&ext->Step); /* told: PageableCode_Deferred */
+    InterlockedIncrement(&ext->Step);
+}
+
+/* It makes no call, and may be paged out all the same. */
+static LONG PagedSum(PEXTENSION Ext, LONG More) { return Ext->Step += More; }
+
+static NTSTATUS CallsPaged(PEXTENSION Ext, PIRP Irp, BOOLEAN Wrong)
+{
+    KIRQL irql;
+    KeAcquireSpinLock(&Ext->Lock, &irql);
+    if (Wrong)
+        PagedSum(Ext, 1); /* told: PageableCode_Quiet */
+    KeReleaseSpinLock(&Ext->Lock, irql);
+    PagedSum(Ext, 2);
+    return Done(Irp);
 }
 
 /* The next two stand in a section by another pragma. */
@@ -214,5 +230,5 @@ const CASE_ROW LevelCases[] = {
     { "IrqlTooLow", AtDpcLevel, NULL, NULL }, { "IrqlReturn", StaysRaised, NULL, NULL },
     { "RaiseLower", RaisesDown, NULL, NULL }, { "ForwardedAtBadIrql", AsksAtDispatch, NULL, NULL },
     { "PageableCode", PagedTakesLock, NULL, NULL }, { "PageableCode_Deferred", DefersPaged, NULL, NULL },
-    { "PageableCode_Segment", RaisesInPaged, NULL, NULL }, { NULL, NULL, NULL, NULL },
+    { "PageableCode_Segment", RaisesInPaged, NULL, NULL }, { "PageableCode_Quiet", CallsPaged, NULL, NULL }, { NULL, NULL, NULL, NULL },
 };

@@ -29,6 +29,17 @@ static NTSTATUS SaysTooMuch(PEXTENSION Ext, PIRP Irp, BOOLEAN Wrong)
     return STATUS_SUCCESS;
 }
 
+/* Of a write of no bytes, say, there is nothing to be said. */
+static NTSTATUS SaysNothing(PEXTENSION Ext, PIRP Irp, BOOLEAN Wrong)
+{
+    UNREFERENCED_PARAMETER(Ext);
+    if (!Wrong)
+        Irp->IoStatus.Status = STATUS_SUCCESS;
+    Irp->IoStatus.Information = 0;
+    IoCompleteRequest(Irp, IO_NO_INCREMENT); /* told: NoStatus */
+    return STATUS_SUCCESS;
+}
+
 /* The right one succeeds the start once the drivers below have, and fails a removal that it is asked for. */
 static NTSTATUS StartsAlone(PEXTENSION Ext, PIRP Irp, BOOLEAN Wrong)
 {
@@ -134,6 +145,20 @@ static NTSTATUS ReadsUnderLock(PEXTENSION Ext, PIRP Irp, BOOLEAN Wrong)
     return Done(Irp);
 }
 
+/* The kernel's pointers need no probe, and this one is a program's. */
+static NTSTATUS LocksAsKernel(PEXTENSION Ext, PIRP Irp, BOOLEAN Wrong)
+{
+    PVOID in = IoGetCurrentIrpStackLocation(Irp)->Parameters.DeviceIoControl.Type3InputBuffer;
+    PMDL mdl = in ? IoAllocateMdl(in, 16, FALSE, FALSE, NULL) : NULL;
+    UNREFERENCED_PARAMETER(Ext);
+    if (!mdl)
+        return Done(Irp);
+    MmProbeAndLockPages(mdl, Wrong ? KernelMode : Irp->RequestorMode, IoReadAccess); /* told: Unprobed_Locked_Program */
+    MmUnlockPages(mdl);
+    IoFreeMdl(mdl);
+    return Done(Irp);
+}
+
 static NTSTATUS SetsNone(PEXTENSION Ext, PIRP Irp, BOOLEAN Wrong)
 {
     IoCopyCurrentIrpStackLocationToNext(Irp);
@@ -143,7 +168,8 @@ static NTSTATUS SetsNone(PEXTENSION Ext, PIRP Irp, BOOLEAN Wrong)
 
 const CASE_ROW PacketCases[] = {
     { "NullRoutine", SetsNone, NULL, NULL }, { "Unwritten", AnswersInPart, NULL, NULL }, { "Unprobed", ReadsPointer, NULL, NULL },
-    { "PagedAtDispatch_Program", ReadsUnderLock, NULL, NULL },
+    { "PagedAtDispatch_Program", ReadsUnderLock, NULL, NULL }, { "Unprobed_Locked_Program", LocksAsKernel, NULL, NULL },
+    { "NoStatus", SaysNothing, NULL, NULL },
     { "TouchedAfterSend", TouchesLate, NULL, NULL }, { "InformationTooLong", SaysTooMuch, NULL, NULL },
     { "NotPassedDown", NULL, StartsAlone, NULL }, { "PnpStatusChanged", NULL, ChangesUnknown, NULL },
     { "PnpStatusChanged_Completed", NULL, FailsUnknown, NULL }, { "RemoveFailed", AsksForRemoval, FailsRemoval, NULL },

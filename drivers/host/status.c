@@ -1,0 +1,31 @@
+/* status.c: a status that nobody has set when a request is completed. Until somebody does, a pattern stands there in place of the
+   I/O manager's zero. A request of Plug and Play, of power or of WMI comes with a status of its own. */
+#include "host.h"
+
+enum { NEVER_SET = 0x4dcdcdcd }; /* of a status of success */
+
+/* It is sent, and no driver has had it. Under G, as is all here. */
+void expect_status(Packet *p)
+{
+    if (!p->is_built || p->asking || p->current != p->size + 1 || p->irp->IoStatus.Status != STATUS_SUCCESS)
+        return;
+    const UCHAR major = raw_at(p, p->current - 1)->MajorFunction;
+    if (major != IRP_MJ_PNP && major != IRP_MJ_POWER && major != IRP_MJ_SYSTEM_CONTROL)
+        p->irp->IoStatus.Status = NEVER_SET;
+}
+
+/* The status is what it would be on Windows. Returns whether nobody has set it. */
+bool put_status_back(Packet *p)
+{
+    const bool is_unset = p->irp->IoStatus.Status == NEVER_SET;
+    if (is_unset)
+        p->irp->IoStatus.Status = STATUS_SUCCESS;
+    return is_unset;
+}
+
+/* A device completes it. */
+void check_status_set(Packet *p, int by)
+{
+    if (put_status_back(p) && by >= 0)
+        broken("NoStatus", p, "%s completes it, and no driver has set Irp->IoStatus.Status", who(by));
+}
