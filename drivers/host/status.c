@@ -23,9 +23,9 @@ bool put_status_back(Packet *p)
     return is_unset;
 }
 
-/* A device completes it. */
+/* A device completes it. One that doesn't own it is told for that. */
 void check_status_set(Packet *p, int by)
 {
-    if (put_status_back(p) && by >= 0)
+    if (put_status_back(p) && by >= 0 && p->owner == by)
         broken("NoStatus", p, "%s completes it, and no driver has set Irp->IoStatus.Status", who(by));
 }

@@ -1,5 +1,6 @@
 mod CommandLine
 mod Grouping
+mod Marking
 mod Naming
 mod Numbering
 mod Pairing
@@ -8,5 +9,8 @@ mod Putting
 mod Ranking
 mod Righting
 mod Showing
+mod Shown
+mod Tabling
 mod Telling
+mod Uttering
 mod Verdicts

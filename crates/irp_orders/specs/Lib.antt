@@ -15,4 +15,5 @@ pub mod Right
 pub mod Rows
 pub mod Such
 pub mod Table
+pub mod Told
 pub mod Wrongs

@@ -1,5 +1,6 @@
 -- What the program does for a script and what is asked of its orders.
 use Rattle.std.specs.Prelude.{ℕ, ◌≡◌, ◌⊎◌, ◌-◌, ◌<◌, ⊤, Bool, true, false, List, length, slice_get, take, Option, Some, IfSome, Ok, Err, All, Contains}
+use Rattle.std.specs.Borrow.{Bor}
 use Rattle.std.specs.Io.KnownBytes.{Appends, Consumes}
 use Rattle.irp_condition.specs.declared.condition.Condition.{Condition}
 use Rattle.irp_machine.specs.Endings.{end_of}
@@ -16,11 +17,15 @@ use Rattle.irp_orders.specs.Conditions.{Says, SaysNothing}
 use Rattle.irp_orders.specs.Exploring.{IsUnexplored, MeetsBound, tells}
 use Rattle.irp_orders.specs.Facts.{Meets}
 use Rattle.irp_orders.specs.Right.{IsRight, IsSetup}
-use Rattle.irp_orders.specs.Rows.{AreRowsOf, IsSomeStuck}
+use Rattle.irp_orders.specs.Rows.{AreFoundsOf, AreRowsOf, IsSomeStuck}
+use Rattle.irp_orders.specs.Table.{AreColumnsOf, IsTable}
+use Rattle.irp_orders.specs.Told.{IsAnswerOf}
 use Rattle.irp_orders.specs.declared.asked.Order.{Order}
 use Rattle.irp_orders.specs.declared.asked.Task.{Task}
 use Rattle.irp_orders.specs.declared.asked.Task.TheVariants.{Never, Right, Show, Table}
+use Rattle.irp_orders.specs.declared.columns.Columns.{Columns}
 use Rattle.irp_orders.specs.declared.found.Found.{Found}
+use Rattle.irp_orders.specs.declared.judging.Question.TheVariants as question
 use Rattle.irp_orders.specs.declared.ending.Ending.{Ending}
 use Rattle.irp_orders.specs.declared.ending.Ending.TheVariants.{
   Done,
@@ -165,11 +170,18 @@ Shows script order number old new Done =
 Shows script order number old new Failed = ⊤
 Shows script order number old new other = IsUnshown script order number other
 
--- how the program ends that was asked for the table: Done only where there are rows of the script's orders
-abbrev pub Tables : ScriptParts → Order → Ending → Type 0
-Tables script order Done = (rows : List Found) × AreRowsOf script order rows
-Tables script order Failed = ⊤
-Tables script order other = IsUnexplored script order other
+-- a text is the table of the rows of what is asked of a script's orders
+abbrev pub IsTableOf : ScriptParts → Order → List ℕ → Type 0
+IsTableOf script order text =
+    (rows : List Found) × (columns : Columns) × AreRowsOf script order rows × AreColumnsOf script rows columns
+    × IsTable columns rows text
+
+-- how the program ends that was asked for the table: Done only where the table of the script's orders was put behind what
+-- had gone out
+abbrev pub Tables : ScriptParts → Order → Option (List ℕ) → Option (List ℕ) → Ending → Type 0
+Tables script order old new Done = (text : List ℕ) × IsTableOf script order text × Appends old new text
+Tables script order old new Failed = ⊤
+Tables script order old new other = IsUnexplored script order other
 
 -- ---- answering
 
@@ -177,12 +189,53 @@ Tables script order other = IsUnexplored script order other
 abbrev pub IsSent : Ending → Ending → Type 0
 IsSent wanted ending = (ending ≡ wanted) ⊎ IsGivenUp ending
 
+-- the same, and the text was put behind what had gone out
+abbrev pub Sends : List ℕ → Ending → Option (List ℕ) → Option (List ℕ) → Ending → Type 0
+Sends text wanted old new ending = ((ending ≡ wanted) × Appends old new text) ⊎ IsGivenUp ending
+
+-- a text tells of these outcomes whether a condition holds that another text says; the program ends so
+abbrev pub TellsHolding : ScriptParts → Bool → List ℕ → List Found → List ℕ → Ending → Type 0
+TellsHolding script tells text founds told ending =
+    (condition : Bor Condition) × Says script tells text condition.now
+    × IsAnswerOf script (question.Never condition) founds told ending
+
+-- the same of the outcomes of a script's orders
+abbrev pub TellsNever : ScriptParts → Order → List ℕ → List ℕ → Ending → Type 0
+TellsNever script order text told ending =
+    (founds : List Found) × AreFoundsOf script (tells order) founds
+    × TellsHolding script (tells order) text founds told ending
+
+-- a text tells of these outcomes whether they are right; the program ends so
+abbrev pub TellsExamined : ScriptParts → List Found → List ℕ → Ending → Type 0
+TellsExamined script founds told ending =
+    (setup : Bor (List Entry)) × IsSetup script setup.now
+    × IsAnswerOf script (question.Right setup) founds told ending
+
+-- the same of the outcomes of a script's orders
+abbrev pub TellsRight : ScriptParts → List ℕ → Ending → Type 0
+TellsRight script told ending =
+    (founds : List Found) × AreFoundsOf script true founds × TellsExamined script founds told ending
+
+-- nothing was judged
+abbrev pub IsUnsaid : Ending → Type 0
+IsUnsaid Done = ⊥
+IsUnsaid Broken = ⊥
+IsUnsaid other = ⊤
+
+-- where the program ends by what was judged, such a text was put behind what had gone out
+abbrev pub Utters : (List ℕ → Ending → Type 0) → Option (List ℕ) → Option (List ℕ) → Ending → Type 0
+Utters Tells old new Done = (text : List ℕ) × Tells text Done × Appends old new text
+Utters Tells old new Broken = (text : List ℕ) × Tells text Broken × Appends old new text
+Utters Tells old new other = ⊤
+
 -- what is answered by what is asked; then this has gone out, where that is known
 abbrev pub Answers : ScriptParts → Order → Task → Option (List ℕ) → Option (List ℕ) → Ending → Type 0
-Answers script order (Never text) old new ending = Judges script order text.now ending
+Answers script order (Never text) old new ending =
+    Judges script order text.now ending × Utters (TellsNever script order text.now) old new ending
 Answers script order (Show number) old new ending = Shows script order number old new ending
-Answers script order Right old new ending = Examines script order ending
-Answers script order Table old new ending = Tables script order ending
+Answers script order Right old new ending =
+    Examines script order ending × Utters (TellsRight script) old new ending
+Answers script order Table old new ending = Tables script order old new ending
 
 -- ---- the whole
 

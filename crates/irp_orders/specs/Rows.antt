@@ -92,6 +92,12 @@ abbrev pub IsSomeStuck : ScriptParts → List Found → Type 0
 IsSomeStuck script rows =
     (place : ℕ) × (row : Found) × (slice_get rows place ≡ Some row) × StopsShort script row.outcome.path.items
 
+-- the outcomes of a script's orders, each of which tells how many orders lead to it, and what the steps were answered
+pub record AreFoundsOf (script : ScriptParts) (told : Bool) (founds : List Found) : Type 0 where
+  pub outcomes : AreOutcomesOf script told (outcomes_of founds)
+  pub own : All IsOwn founds
+  pub answered : All (IsAnswered script.steps) founds
+
 -- the rows of what is asked of a script's orders: their outcomes, each of which tells how many orders lead to it
 pub record AreRowsOf (script : ScriptParts) (order : Order) (rows : List Found) : Type 0 where
   pub founds : List Found

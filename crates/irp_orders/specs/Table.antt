@@ -1,21 +1,32 @@
 -- The table of outcomes.
-use Rattle.std.specs.Prelude.{ℕ, ◌*◌, ◌/◌, ◌%◌, ◌^◌, ◌==◌, ◌&&◌, nat_lt, Bool, not, List, [], ◌++◌, codes, if◌then◌else◌, slice_get, String, string_bytes}
+use Rattle.std.specs.Prelude.{ℕ, ◌≡◌, ◌+◌, ◌*◌, ◌/◌, ◌%◌, ◌^◌, ◌==◌, ◌&&◌, nat_lt, Bool, not, List, [], ◌∷◌, ◌++◌, codes, Option, Some, None, if◌then◌else◌, length, map, slice_get, String, string_bytes}
 use Rattle.std.specs.Fmt.{decimal}
 use Rattle.std.specs.List.{enumerate_from, flat_map, list_any}
 use Rattle.std.specs.Option.{option_map_or}
 use Rattle.irp_types.specs.declared.names.IrpRef.{IrpRef}
+use Rattle.irp_names.specs.Sinks.{Says}
 use Rattle.irp_names.specs.Small.{told_if}
+use Rattle.irp_machine.specs.Answering.{IsToldOf}
 use Rattle.irp_machine.specs.declared.live_end.DeviceEnd.{DeviceEnd}
 use Rattle.irp_machine.specs.declared.live_end.LiveEnd.{LiveEnd}
 use Rattle.irp_machine.specs.declared.outcome.End.{End}
 use Rattle.irp_machine.specs.declared.outcome.LockEnd.{LockEnd}
 use Rattle.irp_machine.specs.declared.outcome.SlotEnd.{SlotEnd}
+use Rattle.irp_plain.specs.declared.answered.Told.{Told}
+use Rattle.irp_script_reader.specs.declared.script.ScriptParts.{ScriptParts}
 use Rattle.irp_orders.specs.Counts.{orders_text}
 use Rattle.irp_orders.specs.Ends.{dead_label_line, device_line, lock_line, packet_lines, slot_line}
 use Rattle.irp_orders.specs.Facts.{names}
-use Rattle.irp_orders.specs.Lines.{line, tells_device, tells_label, tells_lock, tells_slot}
+use Rattle.irp_orders.specs.Lines.{differing_lines, line, tells_device, tells_label, tells_lock, tells_slot}
+use Rattle.irp_orders.specs.Rows.{all_orders}
 use Rattle.irp_orders.specs.declared.columns.Columns.{Columns}
 use Rattle.irp_orders.specs.declared.found.Found.{Found}
+
+-- what the table of these outcomes of a script tells
+pub record AreColumnsOf (script : ScriptParts) (founds : List Found) (columns : Columns) : Type 0 where
+  pub script_is : columns.script.now ≡ script
+  pub labels : map string_bytes columns.labels.now ≡ script.labels
+  pub orders : columns.orders ≡ all_orders 0 founds
 
 -- ---- heads
 
@@ -78,3 +89,35 @@ end_lines columns end =
     ++ (flat_map (told_device_line columns) (enumerate_from 0 end.devices)
     ++ (flat_map (told_lock_line columns) (enumerate_from 0 end.locks)
     ++ flat_map (told_slot_line columns) (enumerate_from 0 end.slots))))
+
+-- ---- rows
+
+-- the lines of an outcome, which has this number: its head, the steps whose answers differ between outcomes, each with its
+-- own answer, and what it leaves
+abbrev pub row_lines : Columns → ℕ → Found → List Told → List ℕ
+row_lines columns number row told =
+    head_line columns.orders number row ++ (differing_lines columns told ++ end_lines columns row.outcome.end)
+
+-- a text is the lines of an outcome along the order that leads to it
+abbrev pub IsRowText : Columns → ℕ → Found → List ℕ → Type 0
+IsRowText columns number row text =
+    (told : List Told) × IsToldOf columns.script.now row.outcome.path.items told
+    × (text ≡ row_lines columns number row told)
+
+-- the lines of an outcome were put
+abbrev pub PutsRow : Columns → ℕ → Found → Option (List ℕ) → Option (List ℕ) → Type 0
+PutsRow columns number row before after =
+    (text : List ℕ) × IsRowText columns number row text × Says text before after
+
+-- a text is the lines of these outcomes, one after another, of which the first has this number
+abbrev pub AreRowTexts : Columns → ℕ → List Found → List ℕ → Type 0
+AreRowTexts columns number [] text = text ≡ []
+AreRowTexts columns number (row ∷ rows) text =
+    (first : List ℕ) × (rest : List ℕ) × IsRowText columns number row first
+    × AreRowTexts columns (number + 1) rows rest × (text ≡ first ++ rest)
+
+-- a text is the table of these outcomes
+abbrev pub IsTable : Columns → List Found → List ℕ → Type 0
+IsTable columns rows text =
+    (rest : List ℕ) × AreRowTexts columns 1 rows rest
+    × (text ≡ table_head (length rows) columns.orders ++ rest)

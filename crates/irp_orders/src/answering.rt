@@ -1,9 +1,9 @@
 //! Telling what is asked of the orders of a script.
 
-ghost use Rattle.std.specs.Prelude.{◌≡◌, ◌⊎◌, ◌<◌, ◌-◌, IfErr, IfOk, IsOk, Some, length, slice_get};
+ghost use Rattle.std.specs.Prelude.{◌≡◌, ◌⊎◌, ◌<◌, ◌-◌, IfErr, IfOk, Some, length, slice_get};
 ghost use Rattle.irp_orders.specs.Exploring.{IsUnexplored};
 ghost use Rattle.irp_orders.specs.Rows.{AreRowsOf};
-ghost use Rattle.irp_orders.specs.declared.ending.Ending.TheVariants.{Done, NoOutcome};
+ghost use Rattle.irp_orders.specs.declared.ending.Ending.TheVariants.{NoOutcome};
 ghost use Rattle.irp_orders.specs.Judging.{IsTold};
 ghost use Rattle.irp_orders.specs.Program.{
   Answers,
@@ -14,11 +14,18 @@ ghost use Rattle.irp_orders.specs.Program.{
   IsRefused,
   IsSent,
   IsShown,
+  IsTableOf,
   IsUnjudged,
+  IsUnsaid,
   IsUnshown,
   Judges,
+  Sends,
   Shows,
   Tables,
+  TellsHolding,
+  TellsNever,
+  TellsRight,
+  Utters,
   Writes,
 };
 
@@ -57,6 +64,8 @@ fn judge(
 ) -> Result<(Vec<u8>, Ending), Ending>
     ensures told { IfOk result (λ told.
         IsTold script.now knows_replies text.now founds.now told.1) }
+    ensures tells { IfOk result (λ told.
+        TellsHolding script.now knows_replies text.now founds.now told.0.items told.1) }
     ensures unjudged { IfErr result (IsUnjudged script.now knows_replies text.now founds.now) }
 {
     let condition = condition_of(alloc, script, knows_replies, text)?;
@@ -78,7 +87,10 @@ fn explore_and_judge(
     text: &str,
 ) -> Result<(Vec<u8>, Ending), Ending>
     ensures told { IfOk result (λ told. Judges script.now order.now text.now told.1) }
+    ensures tells { IfOk result (λ told.
+        TellsNever script.now order.now text.now told.0.items told.1) }
     ensures untold { IfErr result (Judges script.now order.now text.now) }
+    ensures unsaid { IfErr result IsUnsaid }
 {
     paths_can_be_made();
     match founds_of(alloc, script, order) {
@@ -89,7 +101,8 @@ fn explore_and_judge(
 
 /// Sends a text; then the program ends so.
 pub fn send_text<O: Out>(output: &mut O, text: &[u8], ending: Ending) -> Ending
-    ensures { IsSent ending result }
+    ensures ends { IsSent ending result }
+    ensures sends { Sends text.now ending (O.gone output.old) (O.gone output.new) result }
 {
     match send(output, text) {
         Ok(()) => ending,
@@ -105,7 +118,9 @@ fn never<O: Out>(
     order: &Order<'_>,
     text: &str,
 ) -> Ending
-    ensures { Judges script.now order.now text.now result }
+    ensures ends { Judges script.now order.now text.now result }
+    ensures utters { Utters (TellsNever script.now order.now text.now) (O.gone output.old)
+        (O.gone output.new) result }
 {
     match explore_and_judge(alloc, script, order, text) {
         Ok((text, ending)) => send_text(output, text.as_slice(), ending),
@@ -115,7 +130,8 @@ fn never<O: Out>(
 
 /// Tells whether every order of a script ends right, and how the program ends.
 fn examine<O: Out>(alloc: Global, output: &mut O, script: &Script, order: &Order<'_>) -> Ending
-    ensures { Examines script.now order.now result }
+    ensures ends { Examines script.now order.now result }
+    ensures utters { Utters (TellsRight script.now) (O.gone output.old) (O.gone output.new) result }
 {
     match explore_and_examine(alloc, script, order) {
         Ok((text, ending)) => send_text(output, text.as_slice(), ending),
@@ -145,7 +161,7 @@ fn rows_of(alloc: Global, script: &Script, order: &Order<'_>) -> Result<Vec<Foun
 ///
 /// Those of `rows_of`.
 fn table_of(alloc: Global, script: &Script, order: &Order<'_>) -> Result<Vec<u8>, Ending>
-    ensures told { IsOk result → Tables script.now order.now Done }
+    ensures told { IfOk result (λ text. IsTableOf script.now order.now text.items) }
     ensures untold { IfErr result (IsUnexplored script.now order.now) }
 {
     let rows = rows_of(alloc, script, order)?;
@@ -156,7 +172,7 @@ fn table_of(alloc: Global, script: &Script, order: &Order<'_>) -> Result<Vec<u8>
 
 /// Writes the table of the outcomes.
 fn tell<O: Out>(alloc: Global, output: &mut O, script: &Script, order: &Order<'_>) -> Ending
-    ensures { Tables script.now order.now result }
+    ensures { Tables script.now order.now (O.gone output.old) (O.gone output.new) result }
 {
     match table_of(alloc, script, order) {
         Ok(text) => send_text(output, text.as_slice(), Ending::Done),

@@ -4,7 +4,7 @@ ghost use Rattle.std.specs.Prelude.{◌≡◌, [], IfErr, IfOk};
 ghost use Rattle.irp_machine.specs.Replays.{IsReplay};
 ghost use Rattle.irp_orders.specs.Judging.{IsExamined};
 ghost use Rattle.irp_orders.specs.Program as spec;
-ghost use Rattle.irp_orders.specs.Program.{Examines, IsUnexamined, IsUntold};
+ghost use Rattle.irp_orders.specs.Program.{Examines, IsUnexamined, IsUnsaid, IsUntold, TellsExamined, TellsRight};
 
 use crate::asked::Order;
 use crate::ending::Ending;
@@ -39,6 +39,7 @@ fn setup_of(alloc: Global, script: &Script) -> Result<Transcript, Ending>
 #[tactic(auto, using(crate::proofs::Showing::unmade_untold, crate::proofs::Showing::unexamined_untold))]
 fn examined(alloc: Global, script: &Script, founds: &[Found]) -> Result<(Vec<u8>, Ending), Ending>
     ensures told { IfOk result (λ told. IsExamined script.now founds.now told.1) }
+    ensures tells { IfOk result (λ told. TellsExamined script.now founds.now told.0.items told.1) }
     ensures untold { IfErr result (IsUntold script.now founds.now) }
 {
     let setup = setup_of(alloc, script)?;
@@ -69,7 +70,9 @@ pub fn explore_and_examine(
     order: &Order<'_>,
 ) -> Result<(Vec<u8>, Ending), Ending>
     ensures told { IfOk result (λ told. Examines script.now order.now told.1) }
+    ensures tells { IfOk result (λ told. TellsRight script.now told.0.items told.1) }
     ensures untold { IfErr result (Examines script.now order.now) }
+    ensures unsaid { IfErr result IsUnsaid }
 {
     let order = with_replies(order);
     paths_can_be_made();

@@ -10,10 +10,13 @@ ghost use Rattle.std.specs.Prelude.{
   IfSome,
   IsTrue,
   false,
+  decimal,
   length,
   true,
 };
+ghost use Rattle.std.specs.List.{count_by, flat_map};
 ghost use Rattle.std.specs.Option.{IsSomeAnd};
+ghost use Rattle.irp_names.specs.Sinks.{Says};
 ghost use Rattle.irp_machine.specs.Replays.{StopsShort};
 ghost use Rattle.irp_machine.specs.declared.limits.NotMade.TheVariants.{NoStep};
 ghost use Rattle.irp_orders.specs.Judging.{
@@ -26,7 +29,10 @@ ghost use Rattle.irp_orders.specs.Judging.{
   steps_of,
   verdict_ending,
 };
-ghost use Rattle.irp_orders.specs.Rows.{IsSomeStuck};
+ghost use Rattle.irp_orders.specs.Counts.{orders_text};
+ghost use Rattle.irp_orders.specs.Rows.{IsSomeStuck, all_orders};
+ghost use Rattle.irp_orders.specs.Told as spec;
+ghost use Rattle.irp_orders.specs.Told.{IsAnswerOf, IsBrokenText, IsShownIn, IsToldText, PutsShown};
 
 use crate::columns::{Columns, orders_of};
 use crate::ending::Ending;
@@ -170,25 +176,53 @@ pub fn judged(
     Ok(Judgment { marks, shown })
 }
 
-/// Puts the seats of an order's atomic steps, one after another.
-fn put_seats(out: &mut Sink, path: &[u32]) {
-    out.put("    the seats of its atomic steps:");
+/// Puts seats, one after another.
+fn put_all_seats(out: &mut Sink, path: &[u32])
+    ensures { Says (flat_map spec.seat_text path.now) out.old out.new }
+{
     for seat in path {
         tell(out, " ", *seat);
     }
+}
+
+/// Puts the seats of an order's atomic steps, one after another.
+#[tactic(auto, using(irp_names::proofs::Saying::says_both))]
+fn put_seats(out: &mut Sink, path: &[u32])
+    ensures { Says (spec.seats_line path.now) out.old out.new }
+{
+    out.put("    the seats of its atomic steps:");
+    put_all_seats(out, path);
     out.put("\n");
 }
 
-/// How many of the outcomes are marked, and how many orders lead to these.
-fn marked(founds: &[Found], marks: &[bool]) -> (usize, u128) {
-    let (mut outcomes, mut orders) = (0usize, 0u128);
-    for (found, mark) in founds.iter().zip(marks.iter()) {
-        if *mark {
-            outcomes = outcomes.saturating_add(1);
-            orders = orders.saturating_add(found.orders);
-        }
+/// How many orders, with those that lead to one more outcome, where it is marked.
+fn with_orders(orders: u128, found: &Found, is_marked: bool) -> u128
+    ensures { result ≡ spec.with_orders orders found.now is_marked }
+{
+    if is_marked {
+        orders.saturating_add(found.orders)
+    } else {
+        orders
     }
-    (outcomes, orders)
+}
+
+/// How many orders lead to the outcomes that are marked; 2^128 - 1 where there are more.
+fn marked_orders(founds: &[Found], marks: &[bool]) -> u128
+    requires { length marks.now ≡ length founds.now }
+    ensures { result ≡ all_orders 0 (spec.marked founds.now marks.now) }
+{
+    let mut orders = 0u128;
+    for (place, found) in founds.iter().enumerate() {
+        orders = with_orders(orders, found, marks[place]);
+    }
+    orders
+}
+
+/// How many outcomes are marked.
+fn marked_outcomes(marks: &[bool]) -> usize
+    ensures { result ≡ count_by (λ mark. mark) marks.now }
+{
+    marks.iter().filter(|mark| **mark).count()
 }
 
 /// Puts an outcome with each step of its order that was answered, as it was, in the order of the answers.
@@ -203,6 +237,7 @@ fn put_shown(
     number: usize,
     found: &Found,
 ) -> Result<(), NotMade>
+    ensures puts { IfOk result (λ done. PutsShown columns.now number found.now out.old out.new) }
     ensures no_step { IfErr result (λ refusal. refusal ≡ NoStep
         → StopsShort columns.now.script.now found.now.outcome.path.items) }
 {
@@ -214,39 +249,97 @@ fn put_shown(
     Ok(())
 }
 
-/// What is told where no outcome breaks what is asked. The one error is want of memory.
-fn told_kept(
-    alloc: Global,
-    founds: &[Found],
-    question: Question<'_>,
-) -> Result<Vec<u8>, AllocError> {
-    let mut out = Sink::new(alloc);
-    let words = match question {
+/// The words before the counts where no outcome breaks what is asked.
+fn kept_words(question: Question<'_>) -> &'static str
+    ensures { result.now ≡ spec.kept_words question.entry }
+{
+    match question {
         Question::Never(_) => "never: it holds in none of ",
         Question::Right(_) => "right: ",
-    };
-    out.put(words);
-    put_orders(&mut out, orders_of(founds));
+    }
+}
+
+/// Puts these words.
+fn put_kept_words(out: &mut Sink, question: Question<'_>)
+    ensures { Says (spec.kept_words question.entry) out.old out.new }
+{
+    out.put(kept_words(question));
+}
+
+/// Puts how many orders lead to outcomes.
+fn put_orders_of(out: &mut Sink, founds: &[Found])
+    ensures { Says (orders_text (all_orders 0 founds.now)) out.old out.new }
+{
+    put_orders(out, orders_of(founds));
+}
+
+/// Puts the line that tells that no outcome breaks what is asked.
+fn put_kept(out: &mut Sink, founds: &[Found], question: Question<'_>)
+    ensures { Says (spec.kept_line question.entry founds.now) out.old out.new }
+{
+    put_kept_words(out, question);
+    put_orders_of(out, founds);
     out.put(", ");
-    put_outcomes(&mut out, founds.len());
+    put_outcomes(out, founds.len());
     out.put("\n");
+}
+
+/// What is told where no outcome breaks what is asked. The one error is want of memory.
+fn told_kept(alloc: Global, founds: &[Found], question: Question<'_>) -> Result<Vec<u8>, AllocError>
+    ensures { IfOk result (λ text. text.items ≡ spec.kept_line question.entry founds.now) }
+{
+    let mut out = Sink::new(alloc);
+    put_kept(&mut out, founds, question);
     Ok(out.finish()?.into_bytes())
 }
 
-/// Puts how many outcomes break what is asked, and how many orders lead to these.
-fn put_counts(out: &mut Sink, founds: &[Found], question: Question<'_>, marks: &[bool]) {
-    let (outcomes, orders) = marked(founds, marks);
-    let words = match question {
+/// The words before the counts where some outcome breaks what is asked.
+fn broken_words(question: Question<'_>) -> &'static str
+    ensures { result.now ≡ spec.broken_words question.entry }
+{
+    match question {
         Question::Never(_) => "it holds in ",
         Question::Right(_) => "not right in ",
-    };
-    tell(out, words, orders);
+    }
+}
+
+/// Puts these words.
+fn put_broken_words(out: &mut Sink, question: Question<'_>)
+    ensures { Says (spec.broken_words question.entry) out.old out.new }
+{
+    out.put(broken_words(question));
+}
+
+/// Puts how many orders lead to the outcomes that are marked.
+fn put_marked_orders(out: &mut Sink, founds: &[Found], marks: &[bool])
+    requires { length marks.now ≡ length founds.now }
+    ensures { Says (decimal (all_orders 0 (spec.marked founds.now marks.now))) out.old out.new }
+{
+    out.show(marked_orders(founds, marks));
+}
+
+/// Puts how many outcomes are marked.
+fn put_marked_outcomes(out: &mut Sink, marks: &[bool])
+    ensures { Says (decimal (count_by (λ mark. mark) marks.now)) out.old out.new }
+{
+    out.show(marked_outcomes(marks));
+}
+
+/// Puts how many outcomes break what is asked, and how many orders lead to these.
+fn put_counts(out: &mut Sink, founds: &[Found], question: Question<'_>, marks: &[bool])
+    requires { length marks.now ≡ length founds.now }
+    ensures { Says (spec.broken_line question.entry founds.now marks.now) out.old out.new }
+{
+    put_broken_words(out, question);
+    put_marked_orders(out, founds, marks);
     out.put(" of ");
-    put_orders(out, orders_of(founds));
-    tell(out, ", ", outcomes);
+    put_orders_of(out, founds);
+    out.put(", ");
+    put_marked_outcomes(out, marks);
     out.put(" of ");
     put_outcomes(out, founds.len());
-    out.put("; one of them:\n");
+    out.put("; one of them:");
+    out.put("\n");
 }
 
 /// These lines, with those of the outcome at a place, which shows that what is asked is broken, and why.
@@ -262,6 +355,8 @@ fn with_shown(
     place: usize,
     found: &Found,
 ) -> Result<Vec<u8>, NotMade>
+    ensures shown { IfOk result (λ text.
+        IsShownIn columns.now question.entry place found.now out text.items) }
     ensures no_step { IfErr result (λ refusal. refusal ≡ NoStep
         → StopsShort columns.now.script.now found.now.outcome.path.items) }
 {
@@ -287,18 +382,19 @@ fn told_broken(
     columns: &Columns<'_>,
     founds: &[Found],
     question: Question<'_>,
-    judged: &Judgment,
+    marks: &[bool],
     place: usize,
 ) -> Result<Vec<u8>, NotMade>
+    requires place { place < length founds.now }
+    requires marks { length marks.now ≡ length founds.now }
+    ensures text { IfOk result (λ text.
+        IsBrokenText columns.now founds.now question.entry marks.now place text.items) }
     ensures no_step { IfErr result (λ refusal. refusal ≡ NoStep
         → IsSomeStuck columns.now.script.now founds.now) }
 {
     let mut out = Sink::new(alloc);
-    put_counts(&mut out, founds, question, judged.marks.as_slice());
-    match founds.get(place) {
-        Some(found) => with_shown(alloc, out, columns, question, place, found),
-        None => Ok(out.finish()?.into_bytes()),
-    }
+    put_counts(&mut out, founds, question, marks);
+    with_shown(alloc, out, columns, question, place, &founds[place])
 }
 
 /// What is told of what was judged, and how the program ends then.
@@ -313,14 +409,19 @@ fn told(
     question: Question<'_>,
     judged: &Judgment,
 ) -> Result<(Vec<u8>, Ending), NotMade>
+    requires marks { length judged.now.marks.items ≡ length founds.now }
+    requires shown { IfSome judged.now.shown (λ place. place < length founds.now) }
     ensures ends { IfOk result (λ told. told.1 ≡ verdict_ending judged.now.shown) }
+    ensures text { IfOk result (λ told. IsToldText columns.now founds.now question.entry
+        judged.now.marks.items judged.now.shown told.0.items) }
     ensures no_step { IfErr result (λ refusal. refusal ≡ NoStep
         → IsSomeStuck columns.now.script.now founds.now) }
 {
     match judged.shown {
         None => Ok((told_kept(alloc, founds, question)?, Ending::Done)),
         Some(place) => {
-            let text = told_broken(alloc, columns, founds, question, judged, place)?;
+            let marks = judged.marks.as_slice();
+            let text = told_broken(alloc, columns, founds, question, marks, place)?;
             Ok((text, Ending::Broken))
         }
     }
@@ -340,6 +441,8 @@ pub fn answered(
 ) -> Result<(Vec<u8>, Ending), NotMade>
     ensures judged { IfOk result (λ told.
         IsJudged (Breaks script.now.steps question.entry) founds.now told.1) }
+    ensures text { IfOk result (λ told.
+        IsAnswerOf script.now question.entry founds.now told.0.items told.1) }
     ensures no_step { IfErr result (λ refusal. refusal ≡ NoStep
         → IsSomeStuck script.now founds.now) }
 {

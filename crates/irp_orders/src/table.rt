@@ -1,6 +1,6 @@
 //! The table of outcomes.
 
-ghost use Rattle.std.specs.Prelude.{◌≡◌, IfErr};
+ghost use Rattle.std.specs.Prelude.{◌≡◌, IfErr, IfOk};
 ghost use Rattle.std.specs.List.{enumerate_from, flat_map};
 ghost use Rattle.irp_machine.specs.Replays.{StopsShort};
 ghost use Rattle.irp_machine.specs.declared.limits.NotMade.TheVariants.{NoStep};
@@ -8,6 +8,7 @@ ghost use Rattle.irp_names.specs.Sinks.{Says};
 ghost use Rattle.irp_orders.specs.Ends as ends;
 ghost use Rattle.irp_orders.specs.Rows.{IsSomeStuck};
 ghost use Rattle.irp_orders.specs.Table as spec;
+ghost use Rattle.irp_orders.specs.Table.{IsTable, PutsRow};
 
 use crate::columns::Columns;
 use crate::ends::{names, put_device, put_label, put_lock, put_packet, put_slot};
@@ -192,6 +193,7 @@ fn put_row(
     number: usize,
     row: &Found,
 ) -> Result<(), NotMade>
+    ensures puts { IfOk result (λ done. PutsRow columns.now number row.now out.old out.new) }
     ensures no_step { IfErr result (λ refusal. refusal ≡ NoStep
         → StopsShort columns.now.script.now row.now.outcome.path.items) }
 {
@@ -218,6 +220,7 @@ fn put_table_head(out: &mut Sink, outcomes: usize, orders: u128)
 ///
 /// `NoStep` where the order of an outcome can't be made again; `Memory` where memory ran out.
 pub fn table(alloc: Global, columns: &Columns<'_>, rows: &[Found]) -> Result<String, NotMade>
+    ensures table { IfOk result (λ text. IsTable columns.now rows.now text.bytes.items) }
     ensures no_step { IfErr result (λ refusal. refusal ≡ NoStep
         → IsSomeStuck columns.now.script.now rows.now) }
 {
