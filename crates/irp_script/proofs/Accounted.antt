@@ -16,6 +16,7 @@ use Rattle.irp_script.specs.Words.{WordStep, told_by, word_steps}
 use Rattle.irp_script.specs.declared.stop.Stop.{Stop}
 use Rattle.irp_steps.specs.Conditions.{Heard, none_heard}
 use Rattle.irp_script.specs.Labels.{Known, known_to, none_bound}
+use Rattle.irp_script.specs.Stops.{Terms}
 use Rattle.irp_script.specs.Working.{AtWork, IsOwn, Left, MakesOwn, RunsScript, WorkAfter, WorkApart, Working, working}
 use Rattle.irp_script.proofs.Chains.{chained, rising}
 use Rattle.irp_script.proofs.Making.{once_both}
@@ -31,10 +32,10 @@ record Share (number workers : ℕ) (steps : List Step) (dealt : List AtWork) (o
   pairs : map pair_at one.work.seats ≡ map pair_at dealt
   called : NoneTwice (map pair_at dealt) → map calls_at one.work.seats ≡ map (once_made (map (outcome ways) (own_placed number workers (take reached steps)))) (map calls_at dealt)
 
-share_of : (count number workers : ℕ) (steps : List Step) (known : Known) (heard : Heard) (dealt : List AtWork) (one : Left) → MakesOwn count number workers steps (working dealt [] known heard) one.work one.stop
+share_of : (terms : Terms) (number workers : ℕ) (steps : List Step) (known : Known) (heard : Heard) (dealt : List AtWork) (one : Left) → MakesOwn terms number workers steps (working dealt [] known heard) one.work one.stop
     → (ways : Ways) × Share number workers steps dealt one ways
-share_of count number workers steps known heard dealt one made =
-    let chain = chained count 0 (own_placed number workers (take made.reached steps)) (working dealt [] known heard) one.work (rising (is_own_placed number workers) 0 (take made.reached steps)) made.each in
+share_of terms number workers steps known heard dealt one made =
+    let chain = chained terms.fixed.locks 0 (own_placed number workers (take made.reached steps)) (working dealt [] known heard) one.work (rising (is_own_placed number workers) 0 (take made.reached steps)) made.each in
     (chain.ways, record { reached = made.reached; all = made.all; told = chain.told; pairs = chain.pairs; called = chain.called })
 
 abbrev nothing_left : Left
@@ -43,11 +44,11 @@ nothing_left = record { work = working [] [] (none_bound 0) []; stop = None }
 abbrev Shares : (workers : ℕ) (steps : List Step) (dealt : List (List AtWork)) (left : List Left) (each : ℕ → Ways) → Type 0
 Shares workers steps dealt left each = (k : ℕ) → k < workers → Share k workers steps (get_or dealt k []) (get_or left k nothing_left) (each k)
 
-all_shares : (count workers : ℕ) (steps : List Step) (known : Known) (ready after : List AtWork) (lines : List WordLine) (stopped : Option Stop) (work : WorkApart count workers steps known ready after lines stopped)
+all_shares : (terms : Terms) (workers : ℕ) (steps : List Step) (known : Known) (ready after : List AtWork) (lines : List WordLine) (stopped : Option Stop) (work : WorkApart terms workers steps known ready after lines stopped)
     → (each : ℕ → Ways) × Shares workers steps work.dealt work.left each
-all_shares count workers steps known ready after lines stopped work =
+all_shares terms workers steps known ready after lines stopped work =
     chosen (λ k ways. Share k workers steps (get_or work.dealt k []) (get_or work.left k nothing_left) ways) (λ seat place. Made) workers
-    (λ k lt. share_of count k workers steps (known_to k workers steps known) (none_heard steps) (get_or work.dealt k []) (get_or work.left k nothing_left)
+    (λ k lt. share_of terms k workers steps (known_to k workers steps known) (none_heard steps) (get_or work.dealt k []) (get_or work.left k nothing_left)
     (work.made k (get_or work.dealt k []) (get_or work.left k nothing_left)
     (slice_get-get_or work.dealt k [] (omega (arith, lt, work.many.0))) (slice_get-get_or work.left k nothing_left (omega (arith, lt, work.many.1)))))
 
@@ -77,10 +78,10 @@ at_this : (k : ℕ) → 0 + k ≡ k
 at_this k = omega arith
 
 -- no step has two lines
-apart_told : (count workers : ℕ) (steps : List Step) (known : Known) (ready after : List AtWork) (lines : List WordLine) (stopped : Option Stop) (work : WorkApart count workers steps known ready after lines stopped)
+apart_told : (terms : Terms) (workers : ℕ) (steps : List Step) (known : Known) (ready after : List AtWork) (lines : List WordLine) (stopped : Option Stop) (work : WorkApart terms workers steps known ready after lines stopped)
     (each : ℕ → Ways) → Shares workers steps work.dealt work.left each → 0 < workers → (test : WordStep → Bool)
     → count_by test (map told_by lines) ≤ count_by test (word_steps (outcomes (whole each workers) steps))
-apart_told count workers steps known ready after lines stopped work each share some test =
+apart_told terms workers steps known ready after lines stopped work each share some test =
     let w = weight test (whole each workers) in
     let sum : sum_by (λ (one : Left). count_by (λ line. test (told_by line)) one.work.lines) work.left ≤ sum_from (λ number. sum_by w (own_placed number workers steps)) 0 (length work.left) =
     sum_at_most (λ (one : Left). count_by (λ line. test (told_by line)) one.work.lines) (λ number. sum_by w (own_placed number workers steps)) 0 work.left (λ k one lt.
@@ -98,10 +99,10 @@ apart_told count workers steps known ready after lines stopped work each share s
     omega (arith, sum, long, all, found)
 
 -- each step has its lines, where none was stopped
-apart_all_told : (count workers : ℕ) (steps : List Step) (known : Known) (ready after : List AtWork) (lines : List WordLine) (stopped : Option Stop) (work : WorkApart count workers steps known ready after lines stopped)
+apart_all_told : (terms : Terms) (workers : ℕ) (steps : List Step) (known : Known) (ready after : List AtWork) (lines : List WordLine) (stopped : Option Stop) (work : WorkApart terms workers steps known ready after lines stopped)
     (each : ℕ → Ways) → Shares workers steps work.dealt work.left each → 0 < workers → stopped ≡ None → (test : WordStep → Bool)
     → count_by test (map told_by lines) ≡ count_by test (word_steps (outcomes (whole each workers) steps))
-apart_all_told count workers steps known ready after lines stopped work each share some going test =
+apart_all_told terms workers steps known ready after lines stopped work each share some going test =
     let w = weight test (whole each workers) in
     gathered_words work.left lines test work.told
     ∙ sum_at (λ (one : Left). count_by (λ line. test (told_by line)) one.work.lines) (λ number. sum_by w (own_placed number workers steps)) 0 work.left (λ k one lt.
@@ -117,9 +118,9 @@ apart_all_told count workers steps known ready after lines stopped work each sha
     ∙ all_words workers steps each test some
 
 -- no two of a worker's seats have one number where no two of all have
-once_dealt : (count workers : ℕ) (steps : List Step) (known : Known) (ready after : List AtWork) (lines : List WordLine) (stopped : Option Stop) (work : WorkApart count workers steps known ready after lines stopped)
+once_dealt : (terms : Terms) (workers : ℕ) (steps : List Step) (known : Known) (ready after : List AtWork) (lines : List WordLine) (stopped : Option Stop) (work : WorkApart terms workers steps known ready after lines stopped)
     (k : ℕ) → k < workers → NoneTwice (map pair_at ready) → NoneTwice (map pair_at (get_or work.dealt k []))
-once_dealt count workers steps known ready after lines stopped work k lt once number =
+once_dealt terms workers steps known ready after lines stopped work k lt once number =
     let test : AtWork → Bool = λ own. own.seat.number == number in
     let here = part_at_most (λ seats. count_by test seats) work.dealt k [] (omega (arith, lt, work.many.0)) in
     let flat = count_flat test (λ seats. seats) work.dealt in
@@ -140,10 +141,10 @@ once_all ways number workers steps (seat ∷ seats) own =
     λ i. record { pair = pair_at seat; calls = (calls_at seat).calls ++ calls i } ∷ more i
 
 -- the seats of all workers have made the calls of all steps, where none was stopped
-apart_called : (count workers : ℕ) (steps : List Step) (known : Known) (ready after : List AtWork) (lines : List WordLine) (stopped : Option Stop) (work : WorkApart count workers steps known ready after lines stopped)
+apart_called : (terms : Terms) (workers : ℕ) (steps : List Step) (known : Known) (ready after : List AtWork) (lines : List WordLine) (stopped : Option Stop) (work : WorkApart terms workers steps known ready after lines stopped)
     (each : ℕ → Ways) → Shares workers steps work.dealt work.left each → stopped ≡ None → NoneTwice (map pair_at ready) → (test : SeatCalls → Bool)
     → count_by test (map calls_at after) ≡ count_by (λ (told : SeatCalls). test (once_made (outcomes (whole each workers) steps) told)) (map calls_at ready)
-apart_called count workers steps known ready after lines stopped work each share going once test =
+apart_called terms workers steps known ready after lines stopped work each share going once test =
     let outs = outcomes (whole each workers) steps in
     count_map calls_at test after ∙ work.back (λ own. test (calls_at own)) ∙ count_flat (λ own. test (calls_at own)) (λ (one : Left). one.work.seats) work.left
     ∙ sum_same (λ seats. count_by (λ own. test (once_made outs (calls_at own))) seats) (λ (one : Left). count_by (λ own. test (calls_at own)) one.work.seats) work.dealt work.left (work.many.1 ∙ sym work.many.0)
@@ -157,7 +158,7 @@ apart_called count workers steps known ready after lines stopped work each share
     let all : length steps ≤ here.reached = omega (arith, here.all runs) in
     let own = work.own k dealt (slice_get-get_or work.dealt k [] lt) in
     let calls : map calls_at one.work.seats ≡ map (once_made outs) (map calls_at dealt) =
-    here.called (once_dealt count workers steps known ready after lines stopped work k within once)
+    here.called (once_dealt terms workers steps known ready after lines stopped work k within once)
     ∙ ap (λ some. map (once_made (map (outcome (each k)) (own_placed k workers some))) (map calls_at dealt)) (take_all here.reached steps all)
     ∙ ap (λ some. map (once_made some) (map calls_at dealt)) (own_same each k workers (enumerate_from 0 steps))
     ∙ once_all (whole each workers) k workers steps dealt own in
@@ -192,11 +193,11 @@ both_made first last seats test =
     map_twice g f (x ∷ xs) = ap (λ rest. g (f x) ∷ rest) (map_twice g f xs)
 
 -- the setup was made whole
-setup_called : (count : ℕ) (setup : List Step) (known : Known) (before : List AtWork) (ready : Working) (share : MakesOwn count 0 1 setup (working before [] known []) ready None)
+setup_called : (terms : Terms) (setup : List Step) (known : Known) (before : List AtWork) (ready : Working) (share : MakesOwn terms 0 1 setup (working before [] known []) ready None)
     → (ways : Ways) × (map pair_at ready.seats ≡ map pair_at before)
     × (NoneTwice (map pair_at before) → map calls_at ready.seats ≡ map (once_made (outcomes ways setup)) (map calls_at before))
-setup_called count setup known before ready made =
-    let both = share_of count 0 1 setup known [] before (record { work = ready; stop = None }) made in
+setup_called terms setup known before ready made =
+    let both = share_of terms 0 1 setup known [] before (record { work = ready; stop = None }) made in
     let share = both.1 in
     let all : length setup ≤ share.reached = omega (arith, share.all refl) in (
       both.0,
@@ -207,43 +208,43 @@ setup_called count setup known before ready made =
           ∙ ap (λ some. map (once_made (map (outcome both.0) some)) (map calls_at before)) (alone_all (enumerate_from 0 setup)),
     )
 
-accounted_after : (count workers : ℕ) (setup steps : List Step) (known : Known) (before after : List AtWork) (lines : List WordLine) (stopped : Option Stop) (ready : Working) (halted : Option Stop) → 0 < workers
-    → MakesOwn count 0 1 setup (working before [] known []) ready halted → WorkAfter halted count workers steps ready.known ready.seats after lines stopped
+accounted_after : (terms : Terms) (workers : ℕ) (setup steps : List Step) (known : Known) (before after : List AtWork) (lines : List WordLine) (stopped : Option Stop) (ready : Working) (halted : Option Stop) → 0 < workers
+    → MakesOwn terms 0 1 setup (working before [] known []) ready halted → WorkAfter halted terms workers steps ready.known ready.seats after lines stopped
     → Accounts setup steps before after lines stopped
-accounted_after count workers setup steps known before after lines stopped ready (Some told) some first rest = record {
+accounted_after terms workers setup steps known before after lines stopped ready (Some told) some first rest = record {
   ways_first = λ seat place. Made;
   ways = λ seat place. Made;
   told = λ test. let none : count_by test (map told_by lines) ≡ 0 = ap (λ some. count_by test (map told_by some)) rest.1 in omega (arith, none);
   all_told = λ going. absurd (none-some told (sym going ∙ rest.2));
   all_called = λ going. absurd (none-some told (sym going ∙ rest.2));
 }
-accounted_after count workers setup steps known before after lines stopped ready None some first rest =
-    let shared = all_shares count workers steps ready.known ready.seats after lines stopped rest in
-    let begun = setup_called count setup known before ready first in
+accounted_after terms workers setup steps known before after lines stopped ready None some first rest =
+    let shared = all_shares terms workers steps ready.known ready.seats after lines stopped rest in
+    let begun = setup_called terms setup known before ready first in
     let ways = whole shared.0 workers in
     record {
       ways_first = begun.0;
       ways = ways;
-      told = apart_told count workers steps ready.known ready.seats after lines stopped rest shared.0 shared.1 some;
-      all_told = λ going. apart_all_told count workers steps ready.known ready.seats after lines stopped rest shared.0 shared.1 some going;
+      told = apart_told terms workers steps ready.known ready.seats after lines stopped rest shared.0 shared.1 some;
+      all_told = λ going. apart_all_told terms workers steps ready.known ready.seats after lines stopped rest shared.0 shared.1 some going;
       all_called = λ going once test.
-          apart_called count workers steps ready.known ready.seats after lines stopped rest shared.0 shared.1 going (subst NoneTwice (sym begun.1) once) test
+          apart_called terms workers steps ready.known ready.seats after lines stopped rest shared.0 shared.1 going (subst NoneTwice (sym begun.1) once) test
           ∙ ap (count_by (λ (told : SeatCalls). test (once_made (outcomes ways steps) told))) (begun.2 once)
           ∙ both_made (outcomes begun.0 setup) (outcomes ways steps) before test;
     }
 
-pub accounted : (count workers labels : ℕ) (setup steps : List Step) (before after : List AtWork) (lines : List WordLine) (stopped : Option Stop) → 0 < workers
-    → RunsScript count workers labels setup steps before after lines stopped → Accounts setup steps before after lines stopped
-accounted count workers labels setup steps before after lines stopped some ran =
-    accounted_after count workers setup steps (none_bound labels) before after lines stopped ran.ready ran.halted some ran.first ran.rest
+pub accounted : (terms : Terms) (workers labels : ℕ) (setup steps : List Step) (before after : List AtWork) (lines : List WordLine) (stopped : Option Stop) → 0 < workers
+    → RunsScript terms workers labels setup steps before after lines stopped → Accounts setup steps before after lines stopped
+accounted terms workers labels setup steps before after lines stopped some ran =
+    accounted_after terms workers setup steps (none_bound labels) before after lines stopped ran.ready ran.halted some ran.first ran.rest
 
 -- each seat is one of those that were handed in
-after_pairs : (count workers : ℕ) (setup steps : List Step) (before after : List AtWork) (lines : List WordLine) (stopped : Option Stop) (ready : Working) (halted : Option Stop)
-    → map pair_at ready.seats ≡ map pair_at before → WorkAfter halted count workers steps ready.known ready.seats after lines stopped
+after_pairs : (terms : Terms) (workers : ℕ) (setup steps : List Step) (before after : List AtWork) (lines : List WordLine) (stopped : Option Stop) (ready : Working) (halted : Option Stop)
+    → map pair_at ready.seats ≡ map pair_at before → WorkAfter halted terms workers steps ready.known ready.seats after lines stopped
     → EachAsOften (map pair_at before) (map pair_at after)
-after_pairs count workers setup steps before after lines stopped ready (Some told) same rest = λ test. ap (count_by test) (ap (map pair_at) rest.0 ∙ same)
-after_pairs count workers setup steps before after lines stopped ready None same rest = λ test.
-    let shared = all_shares count workers steps ready.known ready.seats after lines stopped rest in
+after_pairs terms workers setup steps before after lines stopped ready (Some told) same rest = λ test. ap (count_by test) (ap (map pair_at) rest.0 ∙ same)
+after_pairs terms workers setup steps before after lines stopped ready None same rest = λ test.
+    let shared = all_shares terms workers steps ready.known ready.seats after lines stopped rest in
     count_map pair_at test after ∙ rest.back (λ own. test (pair_at own)) ∙ count_flat (λ own. test (pair_at own)) (λ (one : Left). one.work.seats) rest.left
     ∙ sum_same (λ seats. count_by (λ own. test (pair_at own)) seats) (λ (one : Left). count_by (λ own. test (pair_at own)) one.work.seats) rest.dealt rest.left (rest.many.1 ∙ sym rest.many.0)
     (λ k d e lt.
@@ -257,11 +258,11 @@ after_pairs count workers setup steps before after lines stopped ready None same
     ∙ rest.seats (λ own. test (pair_at own))
     ∙ sym (count_map pair_at test ready.seats) ∙ ap (count_by test) same
 
-pub same_pairs : (count workers labels : ℕ) (setup steps : List Step) (before after : List AtWork) (lines : List WordLine) (stopped : Option Stop)
-    → RunsScript count workers labels setup steps before after lines stopped → EachAsOften (map pair_at before) (map pair_at after)
-same_pairs count workers labels setup steps before after lines stopped ran =
-    let made = share_of count 0 1 setup (none_bound labels) [] before (record { work = ran.ready; stop = ran.halted }) ran.first in
-    after_pairs count workers setup steps before after lines stopped ran.ready ran.halted made.1.pairs ran.rest
+pub same_pairs : (terms : Terms) (workers labels : ℕ) (setup steps : List Step) (before after : List AtWork) (lines : List WordLine) (stopped : Option Stop)
+    → RunsScript terms workers labels setup steps before after lines stopped → EachAsOften (map pair_at before) (map pair_at after)
+same_pairs terms workers labels setup steps before after lines stopped ran =
+    let made = share_of terms 0 1 setup (none_bound labels) [] before (record { work = ran.ready; stop = ran.halted }) ran.first in
+    after_pairs terms workers setup steps before after lines stopped ran.ready ran.halted made.1.pairs ran.rest
 
 -- what is said of seats at work is said of the seats
 pub pairs_of_items : {S : Type 0} (before after : List S) (f : S → AtWork) → EachAsOften (map pair_at (map f before)) (map pair_at (map f after))

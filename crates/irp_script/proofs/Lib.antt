@@ -1,6 +1,8 @@
 pub mod Accounted
 pub mod Chains
 pub mod Dealing
+pub mod Ends
+pub mod Entering
 pub mod Firsts
 pub mod Handing
 pub mod Making

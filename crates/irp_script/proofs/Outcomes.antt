@@ -58,7 +58,7 @@ came_out count place step Calls old new lines longer known learnt (answer.Reply 
   told = none_told lines longer did.silent;
   pair = λ i. record { seat = did.called.recorded.recorded.kept.number i; table = (did.rest i).remove.table; remove = (did.rest i).remove.number };
   calls = one_call old.seat.entries new.seat.entries did.called.recorded.recorded.entry did.called.call did.called.recorded.recorded.kept.entries did.called.recorded.recorded.of_call.asks
-      ∙ ap (λ made. calls_in old.seat.entries ++ option_to_list made) (sym (nameless_of step.act did.called.of_act.irp did.called.call did.called.of_act.made));
+      ∙ ap (λ made. calls_in old.seat.entries ++ option_to_list made) (sym (nameless_of step.act did.called.of_act.packet.irp did.called.call did.called.of_act.made));
 }
 came_out count place step Calls old new lines longer known learnt (answer.Word reply) did = absurd did
 came_out count place step (OnLock on) old new lines longer known learnt (answer.Reply reply) did = absurd did

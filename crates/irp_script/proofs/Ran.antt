@@ -9,6 +9,7 @@ use Rattle.std.proofs.lemmas.List.Folds.{flat_map-map}
 use Rattle.std.proofs.lemmas.Option.{none-some, same_Some, slice_get-map}
 use Rattle.std.proofs.lemmas.Simd.{map-map}
 use Rattle.atomic_table.specs.Seated.{TableId}
+use Rattle.irp_types.specs.State.{Fixed}
 use Rattle.irp_manager.specs.Seats.{Seated}
 use Rattle.irp_remove.specs.Opening.{AreFresh}
 use Rattle.irp_remove.specs.Seats.{Holder}
@@ -23,6 +24,8 @@ use Rattle.irp_script_reader.specs.declared.script.Script.{Script}
 use Rattle.irp_script.specs.Numbers.{EachAsOften}
 use Rattle.irp_script.specs.Ran.{AreOpened, Ran, parties_in}
 use Rattle.irp_script.specs.Seats.{HasTakenNothing, cancellers_of, owners_of, parties_of, removes_of, seat_at_work, seats_at_work, seats_of}
+use Rattle.irp_script.specs.Stops.{terms_of}
+use Rattle.irp_script.specs.Told.{IsTold}
 use Rattle.irp_script.specs.Working.{RunsScript, roomless}
 use Rattle.irp_script.specs.declared.stop.Stop.{Stop}
 use Rattle.irp_script.specs.declared.script_seat.ScriptSeat.{ScriptSeat}
@@ -82,12 +85,12 @@ all_opened script all opened removes cancellers owners lock_table slot_table cou
 
 -- ---- as they are closed
 
-pub closed_ran : {L : _} {session : _} (workers : ℕ) (script : Script) (before after : List (ScriptSeat L session)) (closed : List Seated) (transcript : TranscriptValue) (stopped : Option Stop)
+pub closed_ran : {L : _} {session : _} (workers : ℕ) (script : Script) (fixed : Fixed) (before after : List (ScriptSeat L session)) (closed : List Seated) (transcript : TranscriptValue) (stopped : Option Stop)
     → AreOpened script (seats_at_work before)
-    → RunsScript script.locks workers (length script.labels) script.setup script.steps (seats_at_work before) (seats_at_work after) transcript.words stopped
+    → RunsScript (terms_of fixed (IsTold script)) workers (length script.labels) script.setup script.steps (seats_at_work before) (seats_at_work after) transcript.words stopped
     → EachAsOften (seats_of after) closed → All (IsKept transcript.entries) closed
-    → Ran workers script transcript stopped
-closed_ran workers script before after closed transcript stopped opened made back kept =
+    → Ran workers script fixed transcript stopped
+closed_ran workers script fixed before after closed transcript stopped opened made back kept =
     record {
       before = seats_at_work before;
       after = seats_at_work after;

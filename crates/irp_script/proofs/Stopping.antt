@@ -7,10 +7,11 @@ use Rattle.std.proofs.lemmas.Option.{get_or_from_slice_get, none-some, same_Some
 use Rattle.std.proofs.lemmas.Simd.{map-map}
 use Rattle.irp_manager.specs.declared.not_recorded.NotRecorded.{NotRecorded}
 use Rattle.irp_manager.specs.declared.not_recorded.NotRecorded.TheVariants as not_recorded
+use Rattle.irp_shared.specs.Sharing.{FindsFull}
 use Rattle.irp_script_reader.specs.declared.act.Step.{Step}
 use Rattle.irp_script.specs.Outcomes.{own_placed}
 use Rattle.irp_steps.specs.StepKinds.{kind_of}
-use Rattle.irp_script.specs.Stops.{IsUnmade, IsUnrecorded, unrecorded}
+use Rattle.irp_script.specs.Stops.{IsUnmade, IsUnrecorded, Terms, unrecorded}
 use Rattle.irp_script.specs.Working.{AloneStops, AtWork, HasSeat, IsStopAt, MakesEach, MakesOwn, StopsAt, StopsBy, Working, first_stop}
 use Rattle.irp_steps.specs.declared.step_kind.StepKind.{StepKind}
 use Rattle.irp_steps.specs.declared.step_kind.StepKind.TheVariants.{Calls, OnLock, Hands, OnSlot, Finishes}
@@ -20,10 +21,11 @@ use Rattle.irp_script.specs.declared.stop.StopReason.{StopReason}
 -- ---- of a seat
 
 -- a call that isn't recorded, of a seat that has seen so many entries
-pub unrecorded_so : (error : NotRecorded) (seen : ℕ) → ((told : ℕ) → error ≡ not_recorded.Behind told → told < seen) → IsUnrecorded seen (unrecorded error)
-unrecorded_so not_recorded.Memory seen behind = tt
-unrecorded_so (not_recorded.Behind told) seen behind = behind told refl
-unrecorded_so not_recorded.HistoryFull seen behind = tt
+pub unrecorded_so : (terms : Terms) (error : NotRecorded) (seen : ℕ) → ((told : ℕ) → error ≡ not_recorded.Behind told → told < seen)
+    → (error ≡ not_recorded.HistoryFull → FindsFull terms.fixed terms.may seen) → IsUnrecorded terms seen (unrecorded error)
+unrecorded_so terms not_recorded.Memory seen behind full = tt
+unrecorded_so terms (not_recorded.Behind told) seen behind full = behind told refl
+unrecorded_so terms not_recorded.HistoryFull seen behind full = full refl
 
 -- ---- of a worker
 
@@ -49,27 +51,28 @@ pub one_number : (xs : List ℕ) (a b m n : ℕ) → slice_get xs a ≡ Some m �
 one_number xs a b m n here there same = ap (λ found. unwrap_or found n) (sym there ∙ ap (slice_get xs) (sym same) ∙ here)
 
 -- a step that isn't a hand is one that stops as such
-pub by_alone : (step : Step) (kind : StepKind) (seats : List AtWork) (reason : StopReason) → ((hand : _) → kind ≡ Hands hand → ⊥) → AloneStops kind step seats reason → StopsBy kind step seats reason
-by_alone step (Hands hand) seats reason other stops = absurd (other hand refl)
-by_alone step Calls seats reason other stops = stops
-by_alone step (OnLock on) seats reason other stops = stops
-by_alone step (OnSlot on) seats reason other stops = stops
-by_alone step (Finishes slot status information) seats reason other stops = stops
+pub by_alone : (terms : Terms) (step : Step) (kind : StepKind) (seats : List AtWork) (reason : StopReason) → ((hand : _) → kind ≡ Hands hand → ⊥)
+    → AloneStops terms kind step seats reason → StopsBy terms kind step seats reason
+by_alone terms step (Hands hand) seats reason other stops = absurd (other hand refl)
+by_alone terms step Calls seats reason other stops = stops
+by_alone terms step (OnLock on) seats reason other stops = stops
+by_alone terms step (OnSlot on) seats reason other stops = stops
+by_alone terms step (Finishes slot status information) seats reason other stops = stops
 
-pub by_unmade : (step : Step) (kind : StepKind) (seats : List AtWork) (reason : StopReason) (at : ℕ) (own : AtWork) → slice_get seats at ≡ Some own → own.seat.number ≡ step.seat
-    → IsUnmade kind own.seat.seen own.parties reason → StopsBy kind step seats reason
-by_unmade step (Hands hand) seats reason at own there named unmade = absurd unmade
-by_unmade step Calls seats reason at own there named unmade = inr (at, own, there, named, unmade)
-by_unmade step (OnLock on) seats reason at own there named unmade = inr (at, own, there, named, unmade)
-by_unmade step (OnSlot on) seats reason at own there named unmade = inr (at, own, there, named, unmade)
-by_unmade step (Finishes slot status information) seats reason at own there named unmade = inr (at, own, there, named, unmade)
+pub by_unmade : (terms : Terms) (step : Step) (kind : StepKind) (seats : List AtWork) (reason : StopReason) (at : ℕ) (own : AtWork) → slice_get seats at ≡ Some own → own.seat.number ≡ step.seat
+    → IsUnmade terms kind own.seat.seen own.parties reason → StopsBy terms kind step seats reason
+by_unmade terms step (Hands hand) seats reason at own there named unmade = absurd unmade
+by_unmade terms step Calls seats reason at own there named unmade = inr (at, own, there, named, unmade)
+by_unmade terms step (OnLock on) seats reason at own there named unmade = inr (at, own, there, named, unmade)
+by_unmade terms step (OnSlot on) seats reason at own there named unmade = inr (at, own, there, named, unmade)
+by_unmade terms step (Finishes slot status information) seats reason at own there named unmade = inr (at, own, there, named, unmade)
 
 -- a step at a place
-pub at_place : {T : Type 0} (P A : Type 0) (result : Result T StopReason) (place : ℕ) (step : Step) (seats : List AtWork)
-    → MatchResult result (λ _. P) (λ why. A × StopsBy (kind_of step.act) step seats why)
-    → MatchResult result (λ _. P) (λ why. A × StopsAt place step seats why)
-at_place P A (Ok done) place step seats made = made
-at_place P A (Err why) place step seats made = (made.0, inr made.1)
+pub at_place : {T : Type 0} (terms : Terms) (P A : Type 0) (result : Result T StopReason) (place : ℕ) (step : Step) (seats : List AtWork)
+    → MatchResult result (λ _. P) (λ why. A × StopsBy terms (kind_of step.act) step seats why)
+    → MatchResult result (λ _. P) (λ why. A × StopsAt terms place step seats why)
+at_place terms P A (Ok done) place step seats made = made
+at_place terms P A (Err why) place step seats made = (made.0, inr made.1)
 
 -- what is so of an answer that is no fault
 pub when_ok : {T E : Type 0} (P : Type 0) (result : Result T E) → ((fault : E) → result ≡ Err fault → ⊥) → OnOk result P → P
@@ -77,21 +80,21 @@ when_ok P (Ok done) other holds = holds
 when_ok P (Err fault) other holds = absurd (other fault refl)
 
 -- it stopped in front of a step
-pub stops_own : (count number workers : ℕ) (steps : List Step) (i : ℕ) (d : Step) (before old new : Working) (n w : ℕ) (stop : Stop) (given : Option Stop) → i < length steps
-    → MakesEach count (own_placed number workers (take i steps)) before old → n ≡ number → w ≡ workers → new ≡ old
-    → IsStopAt n w i (get_or steps i d) old stop → given ≡ Some stop → MakesOwn count number workers steps before new given
-stops_own count number workers steps i d before old new n w stop given lt made same_number same_workers stays here is = record {
+pub stops_own : (terms : Terms) (number workers : ℕ) (steps : List Step) (i : ℕ) (d : Step) (before old new : Working) (n w : ℕ) (stop : Stop) (given : Option Stop) → i < length steps
+    → MakesEach terms.fixed.locks (own_placed number workers (take i steps)) before old → n ≡ number → w ≡ workers → new ≡ old
+    → IsStopAt terms n w i (get_or steps i d) old stop → given ≡ Some stop → MakesOwn terms number workers steps before new given
+stops_own terms number workers steps i d before old new n w stop given lt made same_number same_workers stays here is = record {
   reached = i;
   within = omega (arith, lt);
-  each = subst (MakesEach count (own_placed number workers (take i steps)) before) (sym stays) made;
+  each = subst (MakesEach terms.fixed.locks (own_placed number workers (take i steps)) before) (sym stays) made;
   all = λ none. absurd (none-some stop (sym none ∙ is));
   next = λ told is_told. (
     get_or steps i d,
     slice_get-get_or steps i d lt,
-    subst (IsStopAt number workers i (get_or steps i d) new) (same_Some stop told (sym is ∙ is_told))
-        (subst (λ (work : Working). IsStopAt number workers i (get_or steps i d) work stop) (sym stays)
-        (subst (λ k. IsStopAt number k i (get_or steps i d) old stop) same_workers
-        (subst (λ k. IsStopAt k w i (get_or steps i d) old stop) same_number here))),
+    subst (IsStopAt terms number workers i (get_or steps i d) new) (same_Some stop told (sym is ∙ is_told))
+        (subst (λ (work : Working). IsStopAt terms number workers i (get_or steps i d) work stop) (sym stays)
+        (subst (λ k. IsStopAt terms number k i (get_or steps i d) old stop) same_workers
+        (subst (λ k. IsStopAt terms k w i (get_or steps i d) old stop) same_number here))),
   );
 }
 

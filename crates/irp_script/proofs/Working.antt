@@ -10,7 +10,6 @@ use Rattle.std.proofs.lemmas.List.Concat.{flat_map-cons}
 use Rattle.std.proofs.lemmas.List.Sums.{sum_by-append, sum_by-cons}
 use Rattle.std.proofs.lemmas.Simd.{map-map}
 use Rattle.std.proofs.lemmas.Option.{get_or_from_slice_get, none-some, slice_get-get_or, slice_get-map, slice_get_within}
-use Rattle.irp_types.specs.declared.names.IrpRef.{IrpRef}
 use Rattle.irp_types.specs.declared.names.LockNo.{LockNo}
 use Rattle.irp_types.specs.declared.reply.Reply.{Reply}
 use Rattle.irp_types.specs.declared.status.Status.{Status}
@@ -25,6 +24,7 @@ use Rattle.irp_transcript.specs.declared.word_line.WordLine.{WordLine}
 use Rattle.irp_script_reader.specs.declared.act.Step.{Step}
 use Rattle.irp_steps.specs.declared.step_kind.StepKind.{StepKind}
 use Rattle.irp_steps.specs.declared.step_kind.StepKind.TheVariants.{Calls, OnLock, Hands, OnSlot, Finishes}
+use Rattle.irp_script.specs.declared.binding.NamedPacket.{NamedPacket}
 use Rattle.irp_script.specs.declared.taken.Taken.{Taken}
 use Rattle.irp_script.specs.AtSlots.{AtSlots, fresh}
 use Rattle.irp_script.specs.Calling.{CallsFor, found_drained}
@@ -32,7 +32,7 @@ use Rattle.irp_steps.specs.Conditions.{Heard, none_heard, with_answer}
 use Rattle.irp_steps.specs.declared.answered.Answered.{Answered}
 use Rattle.irp_script.specs.Labels.{AreFounded, IsNamed, Known, known_reading, known_to}
 use Rattle.irp_steps.specs.StepKinds.{kind_of}
-use Rattle.irp_script.specs.Stops.{IsUnmade, IsUnrecorded}
+use Rattle.irp_script.specs.Stops.{IsUnmade, IsUnrecorded, Terms}
 use Rattle.irp_script.specs.declared.stop.Stop.{Stop}
 use Rattle.irp_script.specs.declared.stop.StopReason.{StopReason}
 use Rattle.irp_script.specs.Outcomes.{is_own_placed, own_placed}
@@ -73,13 +73,13 @@ pub call_stays : (before after : Seated) (remove remove_after : Holder) (parties
 call_stays before after remove remove_after parties parties_after same same_remove same_parties =
     λ i. record { seat = roomless_same before after same i; remove = same_remove i; parties = same_parties i }
 
-pub call_made : (result : Result Reply StopReason) (place : ℕ) (step : Step) (before after : Seated) (remove remove_after : Holder) (parties parties_after : AtSlots) (lines longer : List WordLine) (known learnt : Known)
-    → MatchResult result (λ reply. CallsFor place step.act remove before after known learnt reply) (λ why. IsAsBefore before after × IsUnrecorded before.seen why) → remove_after ≡ remove → parties_after ≡ parties → longer ≡ lines
+pub call_made : (terms : Terms) (result : Result Reply StopReason) (place : ℕ) (step : Step) (before after : Seated) (remove remove_after : Holder) (parties parties_after : AtSlots) (lines longer : List WordLine) (known learnt : Known)
+    → MatchResult result (λ reply. CallsFor place step.act remove before after known learnt reply) (λ why. IsAsBefore before after × IsUnrecorded terms before.seen why) → remove_after ≡ remove → parties_after ≡ parties → longer ≡ lines
     → MatchResult result (λ reply. MakesCall place step (at_work before remove parties) (at_work after remove_after parties_after) lines longer known learnt reply)
-    (λ why. Stays (at_work before remove parties) (at_work after remove_after parties_after) lines longer × IsUnrecorded before.seen why)
-call_made (Err why) place step before after remove remove_after parties parties_after lines longer known learnt same same_remove same_parties silent =
+    (λ why. Stays (at_work before remove parties) (at_work after remove_after parties_after) lines longer × IsUnrecorded terms before.seen why)
+call_made terms (Err why) place step before after remove remove_after parties parties_after lines longer known learnt same same_remove same_parties silent =
     ((call_stays before after remove remove_after parties parties_after same.0 same_remove same_parties, silent), same.1)
-call_made (Ok one) place step before after remove remove_after parties parties_after lines longer known learnt calls same_remove same_parties silent = record {
+call_made terms (Ok one) place step before after remove remove_after parties parties_after lines longer known learnt calls same_remove same_parties silent = record {
   called = record { call = calls.call; receipt = calls.receipt; of_act = calls.of_act; recorded = roomless_called before after calls.call (found_drained remove) calls.receipt calls.recorded; told = calls.told; bound = calls.bound };
   rest = λ i. record { seat = roomless after; remove = same_remove i; parties = same_parties i };
   silent = silent;
@@ -104,23 +104,23 @@ put_again slot place parties between after one back given out in_again same =
 
 -- a finish that was recorded
 pub finish_made : (index : ℕ) (step : Step) (slot : ℕ) (status : Status) (information : ℕ) (before after : Seated) (remove remove_after : Holder) (parties between parties_after : AtSlots) (lines longer : List WordLine) (known learnt : Known)
-    (place : ℕ) (token : Token) (irp : IrpRef) (receipt : Receipted) (back : Option Token) (reply : Reply)
-    → slice_get parties.taken place ≡ Some (fresh slot token) → IsNamed known step.act irp → learnt ≡ known_reading index known step.act irp → Called before (FinishTaken irp token.use_no status information) (λ lock. false) receipt after
+    (place : ℕ) (token : Token) (packet : NamedPacket) (receipt : Receipted) (back : Option Token) (reply : Reply)
+    → slice_get parties.taken place ≡ Some (fresh slot token) → IsNamed known step.act packet → learnt ≡ known_reading index known step.act packet → Called before (FinishTaken packet.irp token.use_no status information) (λ lock. false) receipt after
     → back ≡ given_back receipt.reply token → remove_after ≡ remove
     → between ≡ record parties { taken = slice_set parties.taken place (record { slot = slot; token = None }) }
     → parties_after ≡ record between { taken = slice_set between.taken place (record { slot = slot; token = back }) }
     → longer ≡ lines → reply ≡ receipt.reply
     → FinishesTaken index step slot status information (at_work before remove parties) (at_work after remove_after parties_after) lines longer known learnt reply
-finish_made index step slot status information before after remove remove_after parties between parties_after lines longer known learnt place token irp receipt back reply there named noted recorded given same_remove out in_again silent told =
+finish_made index step slot status information before after remove remove_after parties between parties_after lines longer known learnt place token packet receipt back reply there named noted recorded given same_remove out in_again silent told =
     record {
       taken_at = place;
       token = token;
-      irp = irp;
+      packet = packet;
       receipt = receipt;
       there = there;
       named = named;
       noted = noted;
-      recorded = roomless_called before after (FinishTaken irp token.use_no status information) (λ lock. false) receipt recorded;
+      recorded = roomless_called before after (FinishTaken packet.irp token.use_no status information) (λ lock. false) receipt recorded;
       told = told;
       rest =
           let left : parties_after ≡ with_taken parties (slice_set parties.taken place (held_token slot (given_back receipt.reply token))) =
@@ -187,14 +187,14 @@ made_one f seats after at new old lines longer known learnt heard kept count pla
 }
 
 -- a step that wasn't made leaves all as they are
-pub made_none : {S : Type 0} (f : S → AtWork) (seats after : List S) (at : ℕ) (new old : S) (lines longer : List WordLine) (known learnt : Known) (heard : Heard) (step : Step) (why : StopReason) (shows : ℕ)
+pub made_none : {S : Type 0} (terms : Terms) (f : S → AtWork) (seats after : List S) (at : ℕ) (new old : S) (lines longer : List WordLine) (known learnt : Known) (heard : Heard) (step : Step) (why : StopReason) (shows : ℕ)
     → at < length seats → old ≡ get_or seats at old → (f old).seat.number ≡ step.seat
     → shows ≡ news (f old).seat.seen (f new).seat.seen
     → map f after ≡ map (caught_up shows) (map f (set seats at new))
     → learnt ≡ known
-    → Stays (f old) (f new) lines longer × IsUnmade (kind_of step.act) (f old).seat.seen (f old).parties why
-    → (working (map f after) longer learnt heard ≡ working (map f seats) lines known heard) × StopsBy (kind_of step.act) step (map f seats) why
-made_none f seats after at new old lines longer known learnt heard step why shows lt there named shown saw unlearnt unmade =
+    → Stays (f old) (f new) lines longer × IsUnmade terms (kind_of step.act) (f old).seat.seen (f old).parties why
+    → (working (map f after) longer learnt heard ≡ working (map f seats) lines known heard) × StopsBy terms (kind_of step.act) step (map f seats) why
+made_none terms f seats after at new old lines longer known learnt heard step why shows lt there named shown saw unlearnt unmade =
     let stays : Stays (f old) (f new) lines longer = unmade.0 in
     let none : shows ≡ 0 = shown ∙ ap (λ (own : AtWork). news (f old).seat.seen own.seat.seen) stays.0 ∙ no_news (f old).seat.seen in
     let all : map f after ≡ map f seats =
@@ -203,7 +203,7 @@ made_none f seats after at new old lines longer known learnt heard step why show
     let here : slice_get (map f seats) at ≡ Some (f old) =
     slice_get-get_or (map f seats) at (f old) (omega (arith, lt, length-map seats f))
     ∙ ap Some (get_or-map f seats at old (f old) lt ∙ ap f (sym there)) in
-    ((λ i. working (all i) (stays.1 i) (unlearnt i) heard), by_unmade step (kind_of step.act) (map f seats) why at (f old) here named unmade.1)
+    ((λ i. working (all i) (stays.1 i) (unlearnt i) heard), by_unmade terms step (kind_of step.act) (map f seats) why at (f old) here named unmade.1)
 
 -- a turn of the worker: it makes the step if it is its own and its condition holds
 pub turn_skips : (count number workers place : ℕ) (step : Step) (work : Working) → (step.seat % workers == number) ≡ false → MakesEach count (if_own number workers place step) work work
@@ -245,15 +245,15 @@ makes_more count number workers steps i d before old new n w lt so_far same_numb
     subst (λ all. MakesEach count all before new) (sym (placed_more number workers steps i d lt)) (both_make count _ _ before old new so_far one)
 
 -- the same of a worker that is known to be this one and to have begun so
-pub own_from : (count number workers : ℕ) (steps : List Step) (before : Working) (halted : Option Stop) (other_number other_workers : ℕ) (given : List Step) (from after : Working) (stopped : Option Stop)
-    → MakesOwn count other_number other_workers given from after stopped → other_number ≡ number → other_workers ≡ workers → given ≡ steps → from ≡ before → stopped ≡ halted
-    → MakesOwn count number workers steps before after halted
-own_from count number workers steps before halted other_number other_workers given from after stopped made same_number same_workers same_steps same_before same_halt =
-    subst (λ it. MakesOwn count number workers steps before after it) same_halt
-    (subst (λ it. MakesOwn count number workers steps it after stopped) same_before
-    (subst (λ it. MakesOwn count number workers it from after stopped) same_steps
-    (subst (λ it. MakesOwn count number it given from after stopped) same_workers
-    (subst (λ it. MakesOwn count it other_workers given from after stopped) same_number made))))
+pub own_from : (terms : Terms) (number workers : ℕ) (steps : List Step) (before : Working) (halted : Option Stop) (other_number other_workers : ℕ) (given : List Step) (from after : Working) (stopped : Option Stop)
+    → MakesOwn terms other_number other_workers given from after stopped → other_number ≡ number → other_workers ≡ workers → given ≡ steps → from ≡ before → stopped ≡ halted
+    → MakesOwn terms number workers steps before after halted
+own_from terms number workers steps before halted other_number other_workers given from after stopped made same_number same_workers same_steps same_before same_halt =
+    subst (λ it. MakesOwn terms number workers steps before after it) same_halt
+    (subst (λ it. MakesOwn terms number workers steps it after stopped) same_before
+    (subst (λ it. MakesOwn terms number workers it from after stopped) same_steps
+    (subst (λ it. MakesOwn terms number it given from after stopped) same_workers
+    (subst (λ it. MakesOwn terms it other_workers given from after stopped) same_number made))))
 
 pub begun : {S : Type 0} (f : S → AtWork) (seats given : List S) (lines : List WordLine) (known knows : Known) (heard hears : Heard) → seats ≡ given → lines ≡ [] → known ≡ knows → heard ≡ hears
     → working (map f seats) lines known heard ≡ working (map f given) [] knows hears
@@ -291,17 +291,17 @@ if_ok_all (Ok value) step one two three four = step value one two three four
 if_ok_all (Err fault) step one two three four = one
 
 -- workers that seats were dealt to, and what is gathered of what they left
-pub work_apart : {S W : Type 0} (f : S → AtWork) (seats_of : W → List S) (lines_of : W → List WordLine) (known_of : W → Known) (heard_of : W → Heard) (stopped_of : W → Option Stop) (count workers : ℕ) (steps : List Step) (known : Known) (ready : List S) (groups done : List W) (after : List S) (lines : List WordLine) (stopped : Option Stop)
+pub work_apart : {S W : Type 0} (f : S → AtWork) (seats_of : W → List S) (lines_of : W → List WordLine) (known_of : W → Known) (heard_of : W → Heard) (stopped_of : W → Option Stop) (terms : Terms) (workers : ℕ) (steps : List Step) (known : Known) (ready : List S) (groups done : List W) (after : List S) (lines : List WordLine) (stopped : Option Stop)
     → length groups ≡ workers → length done ≡ workers
     → ((test : S → Bool) → sum_by (λ worker. count_by test (seats_of worker)) groups ≡ count_by test ready)
     → ((k : ℕ) (one : W) → k < workers → All (λ s. IsOwn k workers (f s)) (seats_of (get_or groups k one)))
-    → ((k : ℕ) (one other : W) → k < workers → MakesOwn count k workers steps (working (map f (seats_of (get_or groups k other))) [] (known_to k workers steps known) (none_heard steps)) (left_of f seats_of lines_of known_of heard_of stopped_of (get_or done k one)).work (stopped_of (get_or done k one)))
+    → ((k : ℕ) (one other : W) → k < workers → MakesOwn terms k workers steps (working (map f (seats_of (get_or groups k other))) [] (known_to k workers steps known) (none_heard steps)) (left_of f seats_of lines_of known_of heard_of stopped_of (get_or done k one)).work (stopped_of (get_or done k one)))
     → ((test : S → Bool) → count_by test after ≡ sum_by (λ worker. count_by test (seats_of worker)) done)
     → ((test : WordLine → Bool) → count_by test lines ≡ sum_by (λ worker. count_by test (lines_of worker)) done)
     → stopped ≡ first_stop stopped_of done
-    → AreFounded known.packets (map known_of done)
-    → WorkApart count workers steps known (map f ready) (map f after) lines stopped
-work_apart f seats_of lines_of known_of heard_of stopped_of count workers steps known ready groups done after lines stopped grouped counted dealt own made gathered told halted founded =
+    → AreFounded (map known_of done)
+    → WorkApart terms workers steps known (map f ready) (map f after) lines stopped
+work_apart f seats_of lines_of known_of heard_of stopped_of terms workers steps known ready groups done after lines stopped grouped counted dealt own made gathered told halted founded =
     record {
       dealt = map (λ w. map f (seats_of w)) groups;
       left = map (left_of f seats_of lines_of known_of heard_of stopped_of) done;
@@ -320,15 +320,15 @@ work_apart f seats_of lines_of known_of heard_of stopped_of count workers steps 
           let first = get_or_from_slice_get groups number group.0 group.0 group.1 in
           let last = get_or_from_slice_get done number left.0 left.0 left.1 in
           let knows = known_to number workers steps known in
-          subst (λ (one : Left). MakesOwn count number workers steps (working seats [] knows (none_heard steps)) one.work one.stop) left.2
-          (subst (λ seats. MakesOwn count number workers steps (working seats [] knows (none_heard steps)) (left_of f seats_of lines_of known_of heard_of stopped_of left.0).work (stopped_of left.0)) group.2
-          (subst (λ w. MakesOwn count number workers steps (working (map f (seats_of group.0)) [] knows (none_heard steps)) (left_of f seats_of lines_of known_of heard_of stopped_of w).work (stopped_of w)) last
-          (subst (λ w. MakesOwn count number workers steps (working (map f (seats_of w)) [] knows (none_heard steps)) (left_of f seats_of lines_of known_of heard_of stopped_of (get_or done number left.0)).work (stopped_of (get_or done number left.0))) first
+          subst (λ (one : Left). MakesOwn terms number workers steps (working seats [] knows (none_heard steps)) one.work one.stop) left.2
+          (subst (λ seats. MakesOwn terms number workers steps (working seats [] knows (none_heard steps)) (left_of f seats_of lines_of known_of heard_of stopped_of left.0).work (stopped_of left.0)) group.2
+          (subst (λ w. MakesOwn terms number workers steps (working (map f (seats_of group.0)) [] knows (none_heard steps)) (left_of f seats_of lines_of known_of heard_of stopped_of w).work (stopped_of w)) last
+          (subst (λ w. MakesOwn terms number workers steps (working (map f (seats_of w)) [] knows (none_heard steps)) (left_of f seats_of lines_of known_of heard_of stopped_of (get_or done number left.0)).work (stopped_of (get_or done number left.0))) first
           (made number left.0 group.0 within))));
       back = λ test.
           count_map f test after ∙ gathered (λ s. test (f s))
           ∙ sym (count_pieces test (λ (one : Left). one.work.seats) (left_of f seats_of lines_of known_of heard_of stopped_of) (λ w. count_by (λ s. test (f s)) (seats_of w)) (λ w. count_map f test (seats_of w)) done);
       told = λ test. told test ∙ sym (count_pieces test (λ (one : Left). one.work.lines) (left_of f seats_of lines_of known_of heard_of stopped_of) (λ w. count_by test (lines_of w)) (λ w. refl) done);
       halted = halted ∙ sym (first_map (λ (one : Left). one.stop) (left_of f seats_of lines_of known_of heard_of stopped_of) done);
-      labels = subst (AreFounded known.packets) (sym (map-map (λ (one : Left). one.work.known) (left_of f seats_of lines_of known_of heard_of stopped_of) done)) founded;
+      labels = subst AreFounded (sym (map-map (λ (one : Left). one.work.known) (left_of f seats_of lines_of known_of heard_of stopped_of) done)) founded;
     }

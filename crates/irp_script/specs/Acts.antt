@@ -18,7 +18,6 @@ use Rattle.irp_remove.specs.declared.refusal.ReleaseRefusal.TheVariants as relea
 use Rattle.irp_remove.specs.declared.refusal.BeginRefusal.TheVariants as begin
 use Rattle.irp_remove.specs.declared.refusal.DrainRefusal.TheVariants as drain
 use Rattle.irp_remove.specs.declared.refusal.HandRefusal.TheVariants as hand
-use Rattle.irp_types.specs.declared.names.IrpRef.{IrpRef}
 use Rattle.irp_transcript.specs.declared.word_line.WordReply.{WordReply}
 use Rattle.irp_transcript.specs.declared.word_line.WordReply.TheVariants as answered
 use Rattle.irp_script_reader.specs.declared.act.StepAct.{StepAct}
@@ -33,6 +32,7 @@ use Rattle.irp_types.specs.declared.seat_act.LockAct.TheVariants.{
 use Rattle.irp_types.specs.declared.seat_act.SlotAct.{SlotAct}
 use Rattle.irp_types.specs.declared.seat_act.SlotAct.TheVariants.{Publish, Withdraw, Request}
 use Rattle.irp_script.specs.Labels.{IsNamed, Known, known_reading}
+use Rattle.irp_script.specs.declared.binding.NamedPacket.{NamedPacket}
 
 -- an acquisition, of so many locks
 abbrev pub AcquireActs : ℕ → ℕ → ℕ → Holder → Holder → WordReply → Type 0
@@ -96,8 +96,8 @@ HandActs count lock tag giver giver_after taker taker_after other = ⊥
 -- the act of a step of this place on a slot did that, of the packet that it names by what is known of the labels
 abbrev pub SlotActs : ℕ → Known → Known → StepAct → SlotAct → AtSlots → AtSlots → WordReply → Type 0
 SlotActs place known learnt act (Publish slot) before after reply =
-    (irp : IrpRef) × IsNamed known act irp × (learnt ≡ known_reading place known act irp)
-    × Publishing slot irp.use_no before after reply
+    (packet : NamedPacket) × IsNamed known act packet × (learnt ≡ known_reading place known act packet)
+    × Publishing slot packet.irp.use_no before after reply
 SlotActs place known learnt act (Withdraw slot) before after reply =
     (learnt ≡ known) × Withdrawing slot before after reply
 SlotActs place known learnt act (Request slot) before after reply =

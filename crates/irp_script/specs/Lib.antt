@@ -3,6 +3,7 @@ pub mod Acts
 pub mod AtSlots
 pub mod Between
 pub mod Calling
+pub mod Gates
 pub mod Labels
 pub mod Made
 pub mod Numbers

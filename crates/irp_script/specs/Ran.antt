@@ -3,6 +3,7 @@
 use Rattle.std.specs.Prelude.{ℕ, ◌≡◌, All, List, [], Option, length, map}
 use Rattle.std.specs.List.{flat_map}
 use Rattle.atomic_table.specs.Seated.{TableId}
+use Rattle.irp_types.specs.State.{Fixed}
 use Rattle.irp_manager.specs.Seats.{Seated}
 use Rattle.irp_remove.specs.Opening.{AreFresh}
 use Rattle.irp_remove.specs.Seats.{Holder}
@@ -15,6 +16,8 @@ use Rattle.irp_transcript.specs.Transcripts.{TranscriptValue}
 use Rattle.irp_script_reader.specs.declared.script.Script.{Script}
 use Rattle.irp_script_reader.specs.Forms.{slots_of}
 use Rattle.irp_script.specs.Numbers.{EachAsOften}
+use Rattle.irp_script.specs.Stops.{terms_of}
+use Rattle.irp_script.specs.Told.{IsTold}
 use Rattle.irp_script.specs.Working.{AtWork, RunsScript}
 use Rattle.irp_script.specs.declared.stop.Stop.{Stop}
 
@@ -57,17 +60,17 @@ pub record AreOpened (script : Script) (all : List AtWork) : Type 0 where
   pub own : OwnTheirSlots script.seats (parties_in all)
   pub untaken : All (λ own. own.parties.taken ≡ []) all
 
--- What ran: one worker made the setup, and then so many made their own steps, each in the script's order. The setup
--- begins with the seats as they are opened, the steps with seats that have seen all of it; all steps are made, where
--- nothing stopped. The transcript has the word lines that came of it, and for each seat just the entries that it had in
--- the end
-pub record Ran (workers : ℕ) (script : Script) (transcript : TranscriptValue) (stop : Option Stop)
+-- What ran, where this is fixed and questions are answered as the script tells: one worker made the setup, and then so
+-- many made their own steps, each in the script's order. The setup begins with the seats as they are opened, the steps
+-- with seats that have seen all of it; all steps are made, where nothing stopped. The transcript has the word lines that
+-- came of it, and for each seat just the entries that it had in the end
+pub record Ran (workers : ℕ) (script : Script) (fixed : Fixed) (transcript : TranscriptValue) (stop : Option Stop)
     : Type 0 where
   pub before : List AtWork
   pub after : List AtWork
   pub opened : AreOpened script before
-  pub made : RunsScript script.locks workers (length script.labels) script.setup script.steps before after
-      transcript.words stop
+  pub made : RunsScript (terms_of fixed (IsTold script)) workers (length script.labels) script.setup script.steps
+      before after transcript.words stop
   pub closed : List Seated
   pub back : EachAsOften (seats_in after) closed
   pub kept : All (IsKept transcript.entries) closed

@@ -9,6 +9,7 @@ use Rattle.irp_script.specs.declared.worker.Worker.{Worker}
 use Rattle.irp_steps.specs.Conditions.{none_heard}
 use Rattle.irp_script.specs.Labels.{Known, known_to}
 use Rattle.irp_script.specs.Seats.{number_of, seats_at_work}
+use Rattle.irp_script.specs.Stops.{Terms}
 use Rattle.irp_script.specs.Working.{MakesOwn, Working, working}
 
 -- its seats as they are at work, its word lines, what it knows of the labels, and what its steps were answered
@@ -43,11 +44,11 @@ IsReady workers steps known number worker =
     × (worker.stop ≡ None) × All (λ own. number_of own % workers ≡ number) worker.seats.items
     × (worker.known ≡ known_to number workers steps known) × (worker.heard.items ≡ none_heard steps)
 
--- with so many locks it ran its own among the steps, up to the first that wasn't made
+-- in a session of these terms it ran its own among the steps, up to the first that wasn't made
 abbrev pub RunsOwn : {L : _} {session : _}
-    → ℕ → List Step → Worker L session → Worker L session → Type 0
-RunsOwn count steps before after =
-    MakesOwn count before.number before.workers steps (work_of before) (work_of after) after.stop
+    → Terms → List Step → Worker L session → Worker L session → Type 0
+RunsOwn terms steps before after =
+    MakesOwn terms before.number before.workers steps (work_of before) (work_of after) after.stop
 
 -- how many of the workers' seats pass a test, and how many of their word lines
 abbrev pub count_seats : {L : _} {session : _}

@@ -30,7 +30,6 @@ use Rattle.std.specs.Prelude.{
 }
 use Rattle.std.specs.List.{flat_map}
 use Rattle.std.specs.Option.{option_or}
-use Rattle.irp_types.specs.declared.names.IrpRef.{IrpRef}
 use Rattle.irp_types.specs.declared.names.LockNo.{LockNo}
 use Rattle.irp_types.specs.declared.seat_act.Hand.{Hand}
 use Rattle.irp_types.specs.declared.seat_act.LockAct.{LockAct}
@@ -68,7 +67,8 @@ use Rattle.irp_script.specs.Labels.{AreFounded, IsNamed, Known, known_reading, k
 use Rattle.irp_steps.specs.StepKinds.{kind_of}
 use Rattle.irp_script.specs.Outcomes.{is_own_step, own_placed}
 use Rattle.irp_script.specs.Numbers.{EachAsOften}
-use Rattle.irp_script.specs.Stops.{IsUnmade}
+use Rattle.irp_script.specs.Stops.{IsUnmade, Terms}
+use Rattle.irp_script.specs.declared.binding.NamedPacket.{NamedPacket}
 use Rattle.irp_script.specs.declared.stop.Stop.{Stop}
 use Rattle.irp_script.specs.declared.stop.StopReason.{StopReason}
 use Rattle.irp_script.specs.declared.stop.StopReason.TheVariants as why
@@ -135,12 +135,12 @@ pub record FinishesTaken (place : ℕ) (step : Step) (slot : ℕ) (status : Stat
     (before after : AtWork) (lines longer : List WordLine) (known learnt : Known) (reply : Reply) : Type 0 where
   pub taken_at : ℕ
   pub token : Token
-  pub irp : IrpRef
+  pub packet : NamedPacket
   pub receipt : Receipted
   pub there : slice_get before.parties.taken taken_at ≡ Some (fresh slot token)
-  pub named : IsNamed known step.act irp
-  pub noted : learnt ≡ known_reading place known step.act irp
-  pub recorded : Called before.seat (FinishTaken irp token.use_no status information)
+  pub named : IsNamed known step.act packet
+  pub noted : learnt ≡ known_reading place known step.act packet
+  pub recorded : Called before.seat (FinishTaken packet.irp token.use_no status information)
       (λ lock. false) receipt after.seat
   pub told : reply ≡ receipt.reply
   pub rest : after ≡ record before {
@@ -287,40 +287,41 @@ HandStops step hand seats why.Memory = HasSeat seats step.seat × HasSeat seats 
 HandStops step hand seats other = ⊥
 
 -- another step of this kind isn't made: the seat that it names isn't there, or is and doesn't make it
-abbrev pub AloneStops : StepKind → Step → List AtWork → StopReason → Type 0
-AloneStops kind step seats reason =
+abbrev pub AloneStops : Terms → StepKind → Step → List AtWork → StopReason → Type 0
+AloneStops terms kind step seats reason =
     ((reason ≡ why.NoSeat) × ¬ HasSeat seats step.seat)
     ⊎ ((at : ℕ) × (own : AtWork) × (slice_get seats at ≡ Some own) × (own.seat.number ≡ step.seat)
-    × IsUnmade kind own.seat.seen own.parties reason)
+    × IsUnmade terms kind own.seat.seen own.parties reason)
 
 -- a worker with these seats doesn't make a step of this kind, for this reason
-abbrev pub StopsBy : StepKind → Step → List AtWork → StopReason → Type 0
-StopsBy (Hands hand) step seats reason = HandStops step hand seats reason
-StopsBy alone step seats reason = AloneStops alone step seats reason
+abbrev pub StopsBy : Terms → StepKind → Step → List AtWork → StopReason → Type 0
+StopsBy terms (Hands hand) step seats reason = HandStops step hand seats reason
+StopsBy terms alone step seats reason = AloneStops terms alone step seats reason
 
 -- the same of a step at this place: places are below 2 ^ 32
-abbrev pub StopsAt : ℕ → Step → List AtWork → StopReason → Type 0
-StopsAt place step seats reason =
-    ((reason ≡ why.TooManySteps) × (2 ^ 32 ≤ place)) ⊎ StopsBy (kind_of step.act) step seats reason
+abbrev pub StopsAt : Terms → ℕ → Step → List AtWork → StopReason → Type 0
+StopsAt terms place step seats reason =
+    ((reason ≡ why.TooManySteps) × (2 ^ 32 ≤ place)) ⊎ StopsBy terms (kind_of step.act) step seats reason
 
 -- one of so many workers stopped in front of a step of its own whose condition holds, and tells so
-pub record IsStopAt (number workers place : ℕ) (step : Step) (work : Working) (stop : Stop) : Type 0 where
+pub record IsStopAt (terms : Terms) (number workers place : ℕ) (step : Step) (work : Working) (stop : Stop)
+    : Type 0 where
   pub own : is_own_step number workers step ≡ true
   pub applied : applies step work ≡ true
   pub named : stop.seat ≡ step.seat
-  pub why : StopsAt place step work.seats stop.reason
+  pub why : StopsAt terms place step work.seats stop.reason
 
 -- one of so many workers made its own among the first steps, and among all where it didn't stop, but for those that it
 -- passed over; where it stopped, it was in front of the next step
-pub record MakesOwn (count number workers : ℕ) (steps : List Step) (before after : Working)
+pub record MakesOwn (terms : Terms) (number workers : ℕ) (steps : List Step) (before after : Working)
     (stop : Option Stop) : Type 0 where
   pub reached : ℕ
   pub within : reached ≤ length steps
-  pub each : MakesEach count (own_placed number workers (take reached steps)) before after
+  pub each : MakesEach terms.fixed.locks (own_placed number workers (take reached steps)) before after
   pub all : stop ≡ None → reached ≡ length steps
   pub next : (told : Stop) → stop ≡ Some told
       → (step : Step) × (slice_get steps reached ≡ Some step)
-      × IsStopAt number workers reached step after told
+      × IsStopAt terms number workers reached step after told
 
 -- a seat is one of a worker's own
 abbrev pub IsOwn : ℕ → ℕ → AtWork → Type 0
@@ -337,9 +338,8 @@ first_stop told_by [] = None
 first_stop told_by (worker ∷ others) = option_or (told_by worker) (first_stop told_by others)
 
 -- each seat was dealt to the one of so many workers whose own it is, each worker made its own steps, and what they left
--- was gathered. Each label that another worker binds was read to stand for what it stood for before the steps, or for
--- what a step bound it to
-pub record WorkApart (count workers : ℕ) (steps : List Step) (known : Known) (ready after : List AtWork)
+-- was gathered. What a step took of a label from another worker's step is what that step bound the label to
+pub record WorkApart (terms : Terms) (workers : ℕ) (steps : List Step) (known : Known) (ready after : List AtWork)
     (lines : List WordLine) (stop : Option Stop) : Type 0 where
   pub dealt : List (List AtWork)
   pub left : List Left
@@ -349,27 +349,27 @@ pub record WorkApart (count workers : ℕ) (steps : List Step) (known : Known) (
       → slice_get dealt number ≡ Some seats → All (IsOwn number workers) seats
   pub made : (number : ℕ) (seats : List AtWork) (one : Left)
       → slice_get dealt number ≡ Some seats → slice_get left number ≡ Some one
-      → MakesOwn count number workers steps
+      → MakesOwn terms number workers steps
       (working seats [] (known_to number workers steps known) (none_heard steps)) one.work one.stop
   pub back : EachAsOften (flat_map (λ (one : Left). one.work.seats) left) after
   pub told : EachAsOften (flat_map (λ (one : Left). one.work.lines) left) lines
   pub halted : stop ≡ first_stop (λ (one : Left). one.stop) left
-  pub labels : AreFounded known.packets (map (λ (one : Left). one.work.known) left)
+  pub labels : AreFounded (map (λ (one : Left). one.work.known) left)
 
 -- what came behind the setup: nothing, where its worker stopped, which is told; and else the steps
-abbrev pub WorkAfter : Option Stop → ℕ → ℕ → List Step → Known → List AtWork → List AtWork
+abbrev pub WorkAfter : Option Stop → Terms → ℕ → List Step → Known → List AtWork → List AtWork
     → List WordLine → Option Stop → Type 0
-WorkAfter (Some told) count workers steps known ready after lines stop =
+WorkAfter (Some told) terms workers steps known ready after lines stop =
     (after ≡ ready) × (lines ≡ []) × (stop ≡ Some told)
-WorkAfter None count workers steps known ready after lines stop =
-    WorkApart count workers steps known ready after lines stop
+WorkAfter None terms workers steps known ready after lines stop =
+    WorkApart terms workers steps known ready after lines stop
 
 -- One worker made the setup with all seats, and then, unless it stopped, so many made the steps. All seats have seen
 -- the whole setup then, so each call of the steps stands behind all calls of the setup in the history. At first none of
 -- so many labels is bound, and each worker knows what the setup bound. What the setup was answered isn't kept
-pub record RunsScript (count workers labels : ℕ) (setup steps : List Step)
+pub record RunsScript (terms : Terms) (workers labels : ℕ) (setup steps : List Step)
     (before after : List AtWork) (lines : List WordLine) (stop : Option Stop) : Type 0 where
   pub ready : Working
   pub halted : Option Stop
-  pub first : MakesOwn count 0 1 setup (working before [] (none_bound labels) []) ready halted
-  pub rest : WorkAfter halted count workers steps ready.known ready.seats after lines stop
+  pub first : MakesOwn terms 0 1 setup (working before [] (none_bound labels) []) ready halted
+  pub rest : WorkAfter halted terms workers steps ready.known ready.seats after lines stop

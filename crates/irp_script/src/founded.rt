@@ -1,11 +1,11 @@
-//! Whether what workers read of each other's labels is what was bound.
+//! Whether what workers took from each other's steps is what those bound.
 
-ghost use Rattle.std.specs.Prelude.{◌≡◌, All, Contains, IfNone, IfSome, Some, map, true};
-ghost use Rattle.irp_script.specs.Labels.{AreFounded, IsFounded, all_written};
+ghost use Rattle.std.specs.Prelude.{◌≡◌, All, IfNone, IfSome, true};
+ghost use Rattle.irp_script.specs.Labels.{AreFounded, IsFounded};
 ghost use Rattle.irp_script.specs.Workers.{knowns_of};
 
-use crate::binding::Binding;
-use crate::labels::{Known, Source};
+use crate::binding::{Binding, Reading};
+use crate::labels::Known;
 use crate::worker::Worker;
 use irp_shared::Session;
 use irp_types::IrpRef;
@@ -24,61 +24,43 @@ fn is_binding(one: Binding, other: Binding) -> bool
     one.label == other.label && is_irp(one.irp, other.irp)
 }
 
-/// Whether the step that is told there bound the label to the packet.
-fn is_written<L: Session>(workers: &[Worker<'_, L>], reading: Binding, source: Source) -> bool
-    ensures { result ≡ true → Contains (all_written (knowns_of workers.now)) (Some reading) }
+/// Whether the step that a label was taken from bound it to that packet.
+fn is_founded<L: Session>(workers: &[Worker<'_, L>], reading: Reading) -> bool
+    ensures { result ≡ true → IsFounded (knowns_of workers.now) reading }
 {
-    let Some(worker) = workers.get(source.worker as usize) else {
+    let Some(worker) = workers.get(reading.source.worker as usize) else {
         return false;
     };
-    match worker.known.written_at(source.place) {
-        Some(written) => is_binding(written, reading),
+    match worker.known.written_at(reading.source.place) {
+        Some(written) => is_binding(written, reading.binding),
         None => false,
     }
 }
 
-/// Whether the label stood for the packet before the steps, or the step that is told to have bound it did so.
-fn is_founded<L: Session>(
-    known: &Known,
-    workers: &[Worker<'_, L>],
-    reading: Binding,
-    source: Option<Source>,
-) -> bool
-    ensures { result ≡ true → IsFounded known.now.packets (knowns_of workers.now) reading }
-{
-    if is_irp(reading.irp, known.stands_for(reading.label)) {
-        return true;
-    }
-    match source {
-        Some(source) => is_written(workers, reading, source),
-        None => false,
-    }
-}
-
-/// The first label that was read by one of the workers for another packet than it was bound to.
-fn unfounded_by<L: Session>(known: &Known, workers: &[Worker<'_, L>], own: &Known) -> Option<usize>
+/// The first label that one of the workers took from a step that didn't bind it to that packet.
+fn unfounded_by<L: Session>(workers: &[Worker<'_, L>], own: &Known) -> Option<usize>
     ensures { IfNone result (All (λ reading. IfSome reading
-        (IsFounded known.now.packets (knowns_of workers.now))) own.now.read) }
+        (IsFounded (knowns_of workers.now))) own.now.read) }
 {
     let readings = own.readings();
-    for (place, reading) in readings.iter().enumerate() {
+    for reading in readings {
         let Some(reading) = *reading else {
             continue;
         };
-        if !is_founded(known, workers, reading, own.source_at(place)) {
-            return Some(reading.label);
+        if !is_founded(workers, reading) {
+            return Some(reading.binding.label);
         }
     }
     None
 }
 
-/// The first label that a worker read for another packet than it was bound to, where this was known before the steps,
-/// and this is what the workers did. None where there is no such label.
-pub fn unfounded<L: Session>(known: &Known, workers: &[Worker<'_, L>]) -> Option<usize>
-    ensures { IfNone result (AreFounded known.now.packets (knowns_of workers.now)) }
+/// The first label that a worker took from a step that didn't bind it to that packet, where this is what the workers did.
+/// None where there is no such label.
+pub fn unfounded<L: Session>(workers: &[Worker<'_, L>]) -> Option<usize>
+    ensures { IfNone result (AreFounded (knowns_of workers.now)) }
 {
     for worker in workers {
-        if let Some(label) = unfounded_by(known, workers, &worker.known) {
+        if let Some(label) = unfounded_by(workers, &worker.known) {
             return Some(label);
         }
     }

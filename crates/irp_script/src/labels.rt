@@ -3,7 +3,7 @@
 ghost use Rattle.std.specs.Prelude.{◌≡◌, ◌<◌, IfOk, is_some, slice_get, slice_set};
 ghost use Rattle.std.specs.List.{list_any};
 ghost use Rattle.std.specs.Option.{option_flatten};
-ghost use Rattle.irp_steps.specs.Labels.{label_at, label_of, learned};
+ghost use Rattle.irp_steps.specs.Labels.{label_of, learned};
 ghost use Rattle.irp_steps.specs.StepKinds.{named_by};
 ghost use Rattle.irp_script.specs.Labels.{
   IsNamed,
@@ -18,13 +18,13 @@ ghost use Rattle.irp_script.specs.Labels.{
   marks_apart,
   names_apart,
   none_bound,
-  none_kept,
+  places_kept,
   reading_of,
 };
 
-use crate::binding::Binding;
+use crate::binding::{Binding, NamedPacket, Reading, Source};
 use irp_script_reader::{Named, Step, StepAct};
-use irp_steps::{UNBOUND, label_at, label_of, named_by, packet_in, packet_of};
+use irp_steps::{UNBOUND, label_of, named_by, packet_in, packet_of};
 use irp_types::{IrpRef, Reply};
 use std::alloc::{AllocError, Global};
 use std::marker::Model;
@@ -36,32 +36,16 @@ pub struct Bindings {
     packets: Vec<IrpRef>,
 }
 
-/// A step that bound a label: the number of its worker, and its place.
-#[derive(Clone, Copy)]
-pub struct Source {
-    pub worker: u32,
-    pub place: u32,
-}
-
-/// A packet that an act names. Where it names it by a label that all workers share, also the step that is told to have
-/// bound that label, if one of theirs did.
-#[derive(Clone, Copy)]
-pub struct NamedPacket {
-    pub irp: IrpRef,
-    source: Option<Source>,
-}
-
-/// What a worker knows of the labels of a script: what each stands for by the steps of the setup and by its own, and
-/// which of them other workers bind. By the places of its steps it also keeps what they bound, and what they read of
-/// labels that other workers bind, with the step that is told to have bound it.
+/// What a worker, of this number, knows of the labels of a script: what each stands for by the steps of the setup and by
+/// its own, and which of them other workers bind. By the places of its steps it also keeps what they bound, and what they
+/// took from steps of other workers.
 #[derive(Drop)]
 pub struct Known {
     number: u32,
     bindings: Bindings,
     apart: Vec<bool>,
     written: Vec<Option<Binding>>,
-    read: Vec<Option<Binding>>,
-    sources: Vec<Option<Source>>,
+    read: Vec<Option<Reading>>,
 }
 
 impl Model for Known {
@@ -70,6 +54,7 @@ impl Model for Known {
     ghost Value = { Knows };
 
     ghost view = { λ known. record {
+      number = known.number;
       packets = known.bindings.packets.items;
       apart = known.apart.items;
       written = known.written.items;
@@ -134,6 +119,16 @@ fn binding_of(label: Option<usize>, irp: Option<IrpRef>) -> Option<Binding>
     }
 }
 
+/// The label by which an act named this packet, with the packet, where it was taken from a step of another worker.
+fn reading_of(act: StepAct, named: NamedPacket) -> Option<Reading>
+    ensures { result ≡ reading_of act named }
+{
+    match (binding_of(label_named(act), Some(named.irp)), named.source) {
+        (Some(binding), Some(source)) => Some(Reading { binding, source }),
+        _ => None,
+    }
+}
+
 impl Bindings {
     /// The label that an act binds stands for the packet that it was answered by, if it was, from now on.
     fn learn(&mut self, act: StepAct, reply: Reply)
@@ -180,26 +175,22 @@ fn bound_apart(
     Ok(apart)
 }
 
-/// Room for what so many workers' steps bind and read of labels that they share, of which nothing was made yet. Where
-/// there is one worker, or no step binds a label, it takes no memory.
-fn none_kept(
-    alloc: Global,
-    workers: u32,
-    steps: &[Step],
-) -> Result<Vec<Option<Binding>>, AllocError>
-    ensures { IfOk result (λ kept. kept.items ≡ none_kept workers steps.now) }
+/// For how many of so many workers' steps it is kept what they bind and take of labels that they share: for each. Where
+/// there is one worker, or no step binds a label, for none.
+fn places_kept(workers: u32, steps: &[Step]) -> usize
+    ensures { result ≡ places_kept workers steps.now }
 {
     if workers <= 1 {
-        return Ok(Vec::new(alloc));
+        return 0;
     }
     if !bind_labels(steps) {
-        return Ok(Vec::new(alloc));
+        return 0;
     }
-    Ok(vec![in alloc; None; steps.len()]?)
+    steps.len()
 }
 
-/// Keeps what the step of this place bound or read, where this is kept. It takes no memory.
-fn keep_at(kept: &mut Vec<Option<Binding>>, place: u32, binding: Option<Binding>)
+/// Keeps what the step of this place bound, where this is kept. It takes no memory.
+fn keep_binding(kept: &mut Vec<Option<Binding>>, place: u32, binding: Option<Binding>)
     ensures { kept.new.items ≡ slice_set kept.old.items place binding }
 {
     let place = place as usize;
@@ -208,11 +199,13 @@ fn keep_at(kept: &mut Vec<Option<Binding>>, place: u32, binding: Option<Binding>
     }
 }
 
-/// Keeps which step is told to have bound what the step of this place read.
-fn tell_source(sources: &mut Vec<Option<Source>>, place: u32, source: Option<Source>) {
+/// Keeps what the step of this place took from another worker's, where this is kept. It takes no memory.
+fn keep_reading(kept: &mut Vec<Option<Reading>>, place: u32, reading: Option<Reading>)
+    ensures { kept.new.items ≡ slice_set kept.old.items place reading }
+{
     let place = place as usize;
-    if place < sources.len() {
-        sources[place] = source;
+    if place < kept.len() {
+        kept[place] = reading;
     }
 }
 
@@ -232,7 +225,6 @@ impl Known {
             apart: Vec::new(alloc),
             written: Vec::new(alloc),
             read: Vec::new(alloc),
-            sources: Vec::new(alloc),
         })
     }
 
@@ -254,16 +246,15 @@ impl Known {
     {
         let packets = self.bindings.packets.to_vec(alloc)?;
         let apart = bound_apart(alloc, packets.len(), number, workers, steps)?;
-        let written = none_kept(alloc, workers, steps)?;
-        let read = none_kept(alloc, workers, steps)?;
-        let sources = vec![in alloc; None; read.len()]?;
+        let places = places_kept(workers, steps);
+        let written = vec![in alloc; None; places]?;
+        let read = vec![in alloc; None; places]?;
         Ok(Known {
             number,
             bindings: Bindings { packets },
             apart,
             written,
             read,
-            sources,
         })
     }
 
@@ -280,37 +271,30 @@ impl Known {
         }
     }
 
-    /// The label by which an act names this packet, with the packet, where another worker binds that label.
-    fn reading(&self, act: StepAct, irp: IrpRef) -> Option<Binding>
-        ensures { result ≡ reading_of self.now.apart act irp }
-    {
-        if !self.is_apart(act) {
-            return None;
-        }
-        binding_of(label_named(act), Some(irp))
-    }
-
-    /// The packet that an act names, by what is known, or at that moment by the labels of the run where another worker
-    /// binds the label; where it names none, one that is never live. No clause here names what lies under the labels'
-    /// lock: what was read is looked up once all workers are done.
+    /// The packet that an act names by what is known. Where another worker binds the label, and a step of another worker
+    /// was the last to bind it, it is the packet of that step. Where the act names none, it is one that is never live. No
+    /// clause here names what lies under the labels' lock: what that step bound is looked up once all workers are done.
     pub fn packet_of(&self, rt: &impl Wait, labels: &Labels, act: StepAct) -> NamedPacket
-        ensures { IsNamed self.now act result.irp }
+        ensures { IsNamed self.now act result }
     {
         if self.is_apart(act) {
-            return labels.standing(rt, label_named(act));
+            let named = labels.standing(rt, label_named(act));
+            if let Some(source) = named.source {
+                if source.worker != self.number {
+                    return named;
+                }
+            }
         }
         let irp = packet_of(self.bindings.packets.as_slice(), act);
         NamedPacket { irp, source: None }
     }
 
-    /// The step of this place, which has this act, named this packet. It is kept where it did so by a label that another
-    /// worker binds.
+    /// The step of this place, which has this act, named this packet. It is kept where it was taken from a step of another
+    /// worker.
     pub fn took(&mut self, place: u32, act: StepAct, named: NamedPacket)
-        ensures { self.new ≡ known_reading place self.old act named.irp }
+        ensures { self.new ≡ known_reading place self.old act named }
     {
-        let reading = self.reading(act, named.irp);
-        keep_at(&mut self.read, place, reading);
-        tell_source(&mut self.sources, place, named.source);
+        keep_reading(&mut self.read, place, reading_of(act, named));
     }
 
     /// The label that the act of the step of this place binds stands for the packet that it was answered by, if it was,
@@ -320,16 +304,9 @@ impl Known {
     {
         self.bindings.learn(act, reply);
         let binding = binding_of(label_of(act), packet_in(reply));
-        keep_at(&mut self.written, place, binding);
+        keep_binding(&mut self.written, place, binding);
         let worker = self.number;
         labels.learn(rt, binding, Source { worker, place });
-    }
-
-    /// What a label stands for, by what is known.
-    pub fn stands_for(&self, label: usize) -> IrpRef
-        ensures { result ≡ label_at self.now.packets label }
-    {
-        label_at(self.bindings.packets.as_slice(), label)
     }
 
     /// The label that the step of this place bound, with its packet. None where it bound none.
@@ -342,19 +319,11 @@ impl Known {
         }
     }
 
-    /// What the steps read of labels that other workers bind, by their places.
-    pub fn readings(&self) -> &[Option<Binding>]
+    /// What the steps took from steps of other workers, by their places.
+    pub fn readings(&self) -> &[Option<Reading>]
         ensures { result.now ≡ self.now.read }
     {
         self.read.as_slice()
-    }
-
-    /// The step that is told to have bound what the step of this place read. None where none is.
-    pub fn source_at(&self, place: usize) -> Option<Source> {
-        match self.sources.get(place) {
-            Some(source) => *source,
-            None => None,
-        }
     }
 }
 

@@ -4,6 +4,7 @@
 
 mod between;
 mod binding;
+mod due;
 mod founded;
 mod gate;
 mod heard;
@@ -16,6 +17,7 @@ mod script_seat;
 mod seat_steps;
 mod slot_parties;
 mod slot_replies;
+mod step_gate;
 mod stop;
 mod taken;
 mod words;
@@ -23,7 +25,8 @@ mod worker;
 mod worker_steps;
 
 pub use between::hand_between;
-pub use gate::{AlwaysOpen, Due, Gate};
+pub use due::Due;
+pub use gate::{AlwaysOpen, Gate};
 pub use run::{Worked, run_workers, script_seats};
 pub use run_fault::RunFault;
 pub use script_seat::ScriptSeat;

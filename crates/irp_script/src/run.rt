@@ -8,6 +8,7 @@ ghost use Rattle.irp_slots.specs.Pairing.{IsCancellerOf, IsOwnerOf};
 ghost use Rattle.irp_script.specs.Accounts.{Accounts};
 ghost use Rattle.irp_script.specs.AtSlots.{OwnTheirSlots};
 ghost use Rattle.irp_script.specs.Numbers.{AreSame, EachAsOften};
+ghost use Rattle.irp_script.specs.Gates.{AdmitsSteps};
 ghost use Rattle.irp_script.specs.Labels.{AreFounded};
 ghost use Rattle.irp_script.specs.Seats.{
   HasAllSlots,
@@ -24,6 +25,7 @@ ghost use Rattle.irp_script.specs.Seats.{
   seats_at_work,
   seats_of,
 };
+ghost use Rattle.irp_script.specs.Stops.{terms_of};
 ghost use Rattle.irp_script.specs.Words.{AreInOrder};
 ghost use Rattle.irp_script.specs.Workers.{IsIdle, IsReady, RunsOwn, count_lines, count_seats, knowns_of};
 ghost use Rattle.irp_script.specs.Working.{RunsScript, first_stop};
@@ -37,6 +39,7 @@ use crate::run_context::RunContext;
 use crate::run_fault::RunFault;
 use crate::script_seat::ScriptSeat;
 use crate::slot_parties::SlotParties;
+use crate::step_gate::StepGate;
 use crate::stop::Stop;
 use crate::words::put_in_order;
 use crate::worker::Worker;
@@ -189,7 +192,13 @@ fn deal<'a, L: Session>(
 }
 
 /// Each worker runs in a thread of its own, and comes back with its seats.
-fn run_all<'a, A: Ask + Send, L: Session + Send + Sync, G: Gate + Sync, R: Threads + Wait + Sync>(
+fn run_all<
+    'a,
+    A: Ask + Send,
+    L: Session + Send + Sync,
+    G: StepGate + Sync,
+    R: Threads + Wait + Sync,
+>(
     rt: &R,
     context: &RunContext<A, L>,
     meeting: &Meeting,
@@ -197,9 +206,10 @@ fn run_all<'a, A: Ask + Send, L: Session + Send + Sync, G: Gate + Sync, R: Threa
     steps: &[Step],
     workers: Vec<Worker<'a, L>>,
 ) -> Result<Vec<Worker<'a, L>>, AllocError>
+    requires gate { AdmitsSteps (G.admits gate.now) steps.now }
     ensures len { IfOk result (λ done. vec_len done ≡ vec_len workers.entry) }
     ensures made { IfOk result (λ done. (k : ℕ) (one : _) (other : _) → k < vec_len workers.entry
-        → RunsOwn L.fixed.locks steps.now (slice_index_or workers.entry.items k other)
+        → RunsOwn (terms_of L.fixed L.may) steps.now (slice_index_or workers.entry.items k other)
         (slice_index_or done.items k one)) }
 {
     thread::map_vec(
@@ -209,15 +219,14 @@ fn run_all<'a, A: Ask + Send, L: Session + Send + Sync, G: Gate + Sync, R: Threa
     )
 }
 
-/// What the workers did, together, where this was known of the labels before their steps.
+/// What the workers did, together.
 ///
 /// # Errors
 ///
-/// `LabelsDiffer` where one read a label that another binds for another packet than it was bound to; `Memory` where a
+/// `LabelsDiffer` where one took a label from a step of another that didn't bind it to that packet; `Memory` where a
 /// growth was refused.
 fn gather<'a, L: Session>(
     alloc: Global,
-    known: &Known,
     mut workers: Vec<Worker<'a, L>>,
 ) -> Result<Worked<'a, L>, RunFault>
     ensures words { IfOk result (λ worked. AreInOrder worked.words.items) }
@@ -227,10 +236,9 @@ fn gather<'a, L: Session>(
         (λ worker. worker.stop) workers.entry.items) }
     ensures seats { IfOk result (λ worked. (test : _ → Bool)
         → count_by test worked.seats.items ≡ count_seats test workers.entry.items) }
-    ensures labels { IfOk result (λ _.
-        AreFounded known.now.packets (knowns_of workers.entry.items)) }
+    ensures labels { IfOk result (λ _. AreFounded (knowns_of workers.entry.items)) }
 {
-    if let Some(label) = unfounded(known, workers.as_slice()) {
+    if let Some(label) = unfounded(workers.as_slice()) {
         return Err(RunFault::LabelsDiffer { label });
     }
     let mut seats = Vec::new(alloc);
@@ -255,15 +263,16 @@ fn gather<'a, L: Session>(
 /// receipt of another session may be behind, and then its worker stops.
 ///
 /// Labels are shared by all seats: one that isn't bound yet stands for a packet that is never live. For a worker's step
-/// a label stands for what the setup's steps and the worker's own made it stand for; but one that another worker binds
-/// stands for what it stands for at that moment: for what it stood for behind the setup, or for what a step of a worker
-/// bound it to. That no other packet was taken is looked up once all workers are done. A step whose seat isn't there, one whose
-/// call isn't recorded, a hand to a seat that its worker doesn't have, and a publish or a
-/// withdraw in a slot of another seat stops its worker, which says so; in the setup, nothing more is run. The gate is
-/// called before and after each of the script's `steps` that is made, with its seat and its place, outside the session's
-/// lock (tests show it, no clause). A step of the setup on a lock or a slot, which no `Script` has, has no word line.
+/// a label stands for what the setup's steps and the worker's own before it made it stand for; but one that another worker
+/// binds may stand for what a step of another worker bound it to. That this step did so is looked up once all workers are
+/// done, not that it came before. A step whose seat isn't there, one whose call isn't recorded, a hand to a seat that its
+/// worker doesn't have, and a publish or a withdraw in a slot of another seat stops its worker, which says so; in the
+/// setup, nothing more is run. The gate is called before and after each of the script's `steps` that is made, with its
+/// seat and its place, outside the session's lock (tests show it, no clause). A step of the setup on a lock or a slot,
+/// which no `Script` has, has no word line.
 ///
-/// A step whose condition fails is passed over: nothing is done, and the gate isn't called (its contract says so).
+/// A step whose condition fails is passed over: nothing is done, and the gate isn't called. A worker's own contract says
+/// so: it tells its gate only of its own steps that are due, each with the answer that it heard.
 /// Answers are kept, by the places of `steps`, only where one of `steps` has a condition; those of the setup aren't, so
 /// there each condition fails.
 ///
@@ -292,8 +301,8 @@ fn gather<'a, L: Session>(
 ///
 /// # Errors
 ///
-/// `Memory` where a growth was refused, and `LabelsDiffer` where what was read of a label can't be found among what was
-/// bound, which would be a fault of this library. Either may come after steps were run. The seats are gone then.
+/// `Memory` where a growth was refused, and `LabelsDiffer` where a step took a label from another worker's step that didn't
+/// bind it so, which would be a fault of this library. Either may come after steps were run. The seats are gone then.
 pub fn run_workers<
     'a,
     A: Ask + Send,
@@ -323,7 +332,8 @@ pub fn run_workers<
         (seats_at_work seats.entry.items) (seats_at_work worked.seats.items)
         worked.words.items worked.stop) }
     ensures ran { IfOk result
-        (λ worked. RunsScript L.fixed.locks workers (length script.now.labels) script.now.setup script.now.steps
+        (λ worked. RunsScript (terms_of L.fixed L.may) workers (length script.now.labels)
+        script.now.setup script.now.steps
         (seats_at_work seats.entry.items) (seats_at_work worked.seats.items)
         worked.words.items worked.stop) }
 {
@@ -346,5 +356,5 @@ pub fn run_workers<
     let groups = deal(alloc, locks, workers, ready.seats, &ready.known, steps)?;
     let meeting = Meeting::new(workers);
     let done = run_all(rt, &context, &meeting, gate, steps, groups)?;
-    gather(alloc, &ready.known, done)
+    gather(alloc, done)
 }

@@ -7,8 +7,8 @@ use std::alloc::AllocError;
 pub enum RunFault {
     /// Memory ran out.
     Memory,
-    /// A step named its packet by this label, of this number among the script's labels, which another worker binds, and
-    /// no step of a worker is known to have bound it to that packet. Nor did it stand for that packet before.
+    /// A step took the packet of this label, of this number among the script's labels, from a step of another worker, which
+    /// isn't known to have bound it to that packet.
     LabelsDiffer { label: usize },
 }
 

@@ -8,7 +8,7 @@ ghost use Rattle.irp_script.specs.Acts.{Acts, SlotActs};
 ghost use Rattle.irp_script.specs.Calling.{CallsFor};
 ghost use Rattle.irp_steps.specs.StepKinds.{kind_of};
 ghost use Rattle.irp_script.specs.Seats.{seat_at_work};
-ghost use Rattle.irp_script.specs.Stops.{IsAlone, IsUnacted, IsUnmade, IsUnrecorded};
+ghost use Rattle.irp_script.specs.Stops.{IsAlone, IsUnacted, IsUnmade, IsUnrecorded, terms_of};
 ghost use Rattle.irp_script.specs.Working.{ActsOnLock, ActsOnSlot, Does, Finishing, HandsOver, Stays, Tells, caught_up};
 
 use crate::labels::Known;
@@ -73,7 +73,8 @@ impl<'a, L: Session> ScriptSeat<'a, L> {
         ensures called { MatchResult result
             (λ reply. CallsFor index step.act self.old.remove
             self.old.seat self.new.seat known.old known.new reply)
-            (λ why. IsAsBefore self.old.seat self.new.seat × IsUnrecorded self.old.seat.seen why) }
+            (λ why. IsAsBefore self.old.seat self.new.seat
+            × IsUnrecorded (terms_of L.fixed L.may) self.old.seat.seen why) }
         ensures unlearnt { OnErr result (known.new ≡ known.old) }
     {
         let named = known.packet_of(rt, &context.labels, step.act);
@@ -322,7 +323,8 @@ impl<'a, L: Session> ScriptSeat<'a, L> {
             (seat_at_work self.old) (seat_at_work self.new)
             words.old.items words.new.items known.old known.new answer)
             (λ why. Stays (seat_at_work self.old) (seat_at_work self.new)
-            words.old.items words.new.items × IsUnrecorded self.old.seat.seen why) }
+            words.old.items words.new.items
+            × IsUnrecorded (terms_of L.fixed L.may) self.old.seat.seen why) }
         ensures unlearnt { OnErr result (known.new ≡ known.old) }
     {
         let Some((at, token)) = self.parties.take(slot) else {
@@ -372,7 +374,8 @@ impl<'a, L: Session> ScriptSeat<'a, L> {
             words.old.items words.new.items known.old known.new answer)
             (λ why. Stays (seat_at_work self.old) (seat_at_work self.new)
             words.old.items words.new.items
-            × IsUnmade (kind_of step.act) self.old.seat.seen self.old.parties why) }
+            × IsUnmade (terms_of L.fixed L.may) (kind_of step.act) self.old.seat.seen
+            self.old.parties why) }
         ensures same { IsSameSeat self.old.remove self.new.remove }
         ensures unlearnt { OnErr result (known.new ≡ known.old) }
     {

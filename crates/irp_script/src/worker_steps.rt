@@ -27,7 +27,9 @@ ghost use Rattle.std.specs.Prelude.{
   OnOk,
   Some,
 };
+ghost use Rattle.irp_script.specs.Gates.{AdmitsOwn, AdmitsTurn, due_at};
 ghost use Rattle.irp_script.specs.Seats.{IsAtLocks, numbers_of, seats_at_work};
+ghost use Rattle.irp_script.specs.Stops.{terms_of};
 ghost use Rattle.irp_script.specs.Workers.{IsSameWorker, RunsOwn, work_of};
 ghost use Rattle.irp_script.specs.Working.{
   HandStops,
@@ -45,12 +47,13 @@ ghost use Rattle.irp_script.specs.Working.{
 ghost use Rattle.irp_steps.specs.Conditions.{holds};
 ghost use Rattle.irp_steps.specs.StepKinds.{kind_of};
 
-use crate::gate::{Due, Gate};
+use crate::due::Due;
 use crate::heard::keep;
 use crate::meeting::Meeting;
 use crate::run_context::RunContext;
 use crate::script_seat::ScriptSeat;
 use crate::seat_steps::tell;
+use crate::step_gate::StepGate;
 use crate::stop::{Stop, StopReason};
 use crate::worker::Worker;
 use irp_remove::Locks;
@@ -116,6 +119,18 @@ fn all_saw<'a, L: Session>(locks: &'a Locks, seats: &mut [ScriptSeat<'a, L>], le
     let _ = locks;
     for own in seats.iter_mut() {
         own.saw(length);
+    }
+}
+
+/// What a gate is told of the step of this place, where a worker has heard this.
+fn due_at(place: u32, step: Step, heard: &[Option<Answered>]) -> Due
+    ensures { result ≡ due_at place step heard.now }
+{
+    Due {
+        seat: step.seat,
+        step: place,
+        condition: step.condition,
+        answer: named_answer(heard, step.condition),
     }
 }
 
@@ -201,7 +216,8 @@ impl<'a, L: Session> Worker<'a, L> {
         ensures made { MatchResult result
             (λ _. Makes L.fixed.locks index step (work_of self.old) (work_of self.new))
             (λ why. (work_of self.new ≡ work_of self.old)
-            × StopsBy (kind_of step.act) step (work_of self.old).seats why) }
+            × StopsBy (terms_of L.fixed L.may) (kind_of step.act) step
+            (work_of self.old).seats why) }
     {
         if let StepKind::Hands(hand) = kind_of(step.act) {
             return self.hand(index, step, hand);
@@ -223,12 +239,12 @@ impl<'a, L: Session> Worker<'a, L> {
         }
     }
 
-    /// Makes a step between the calls of the gate.
+    /// Makes a step between the calls of the gate, which is told of this step, and of the answer that the worker heard.
     ///
     /// # Errors
     ///
     /// `TooManySteps` exactly where its place is 2^32 or above, else those of `step`. Nothing was done then.
-    fn pass<A: Ask, G: Gate>(
+    fn pass<A: Ask, G: StepGate>(
         &mut self,
         rt: &impl Wait,
         context: &RunContext<A, L>,
@@ -236,25 +252,21 @@ impl<'a, L: Session> Worker<'a, L> {
         index: usize,
         step: Step,
     ) -> Result<(), StopReason>
-        requires { holds (work_of self.old).heard step.condition ≡ true }
+        requires applies { holds (work_of self.old).heard step.condition ≡ true }
+        requires admits { G.admits gate.now (due_at index step (work_of self.old).heard) }
         ensures same { IsSameWorker self.old self.new }
         ensures made { MatchResult result
             (λ _. Makes L.fixed.locks index step (work_of self.old) (work_of self.new))
             (λ why. (work_of self.new ≡ work_of self.old)
-            × StopsAt index step (work_of self.old).seats why) }
+            × StopsAt (terms_of L.fixed L.may) index step (work_of self.old).seats why) }
     {
         let Ok(index) = u32::try_from(index) else {
             return Err(StopReason::TooManySteps);
         };
-        let due = Due {
-            seat: step.seat,
-            step: index,
-            condition: step.condition,
-            answer: named_answer(self.heard.as_slice(), step.condition),
-        };
-        gate.enter(due);
+        let due = due_at(index, step, self.heard.as_slice());
+        gate.begins(due);
         let made = self.step(rt, context, index, step);
-        gate.answered(due);
+        gate.ends(due);
         made
     }
 
@@ -271,7 +283,7 @@ impl<'a, L: Session> Worker<'a, L> {
     /// # Errors
     ///
     /// Why the step, which is its own then, wasn't made. Nothing was done then.
-    fn turn<A: Ask, G: Gate>(
+    fn turn<A: Ask, G: StepGate>(
         &mut self,
         rt: &impl Wait,
         context: &RunContext<A, L>,
@@ -280,12 +292,15 @@ impl<'a, L: Session> Worker<'a, L> {
         index: usize,
         step: Step,
     ) -> Result<(), Stop>
+        requires { AdmitsTurn (G.admits gate.now) self.old.number self.old.workers index step
+            (work_of self.old) }
         ensures same { IsSameWorker self.old self.new }
         ensures turned { OnOk result
             (MakesEach L.fixed.locks (if_own self.old.number self.old.workers index step)
             (work_of self.old) (work_of self.new)) }
         ensures stayed { IfErr result (λ stop. (work_of self.new ≡ work_of self.old)
-            × IsStopAt self.old.number self.old.workers index step (work_of self.old) stop) }
+            × IsStopAt (terms_of L.fixed L.may) self.old.number self.old.workers index step
+            (work_of self.old) stop) }
     {
         if !self.has(step) {
             return Ok(());
@@ -308,7 +323,7 @@ impl<'a, L: Session> Worker<'a, L> {
     /// an act on remove locks or on a cancel slot, of which a line behind its word lines tells what was answered, or
     /// a finish of a taken packet, which was either. A step whose condition fails was passed over: nothing was done. Its
     /// stop says in front of which seat's step it stopped, and why; None exactly where it stopped nowhere.
-    pub fn run<A: Ask, G: Gate>(
+    pub fn run<A: Ask, G: StepGate>(
         mut self,
         rt: &impl Wait,
         context: &RunContext<A, L>,
@@ -316,8 +331,10 @@ impl<'a, L: Session> Worker<'a, L> {
         gate: &G,
         steps: &[Step],
     ) -> Worker<'a, L>
+        requires { AdmitsOwn (G.admits gate.now) L.fixed.locks self.number self.workers steps.now
+            (work_of self) }
         ensures locks { result.locks.now ≡ self.entry.locks.now }
-        ensures made { RunsOwn L.fixed.locks steps.now self.entry result }
+        ensures made { RunsOwn (terms_of L.fixed L.may) steps.now self.entry result }
     {
         for (index, step) in steps.iter().enumerate() {
             if let Err(stop) = self.turn(rt, context, meeting, gate, index, *step) {

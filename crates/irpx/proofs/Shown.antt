@@ -10,6 +10,7 @@ use Rattle.std.proofs.lemmas.List.Sums.{sum_by-cons}
 use Rattle.std.proofs.lemmas.Slice.Eq.{slice_eq-Decides}
 use Rattle.irp_types.specs.Calls.{Call}
 use Rattle.irp_types.specs.Histories.{own_entries}
+use Rattle.irp_types.specs.State.{Fixed}
 use Rattle.irp_types.specs.declared.entry.Entry.{Entry}
 use Rattle.irp_types.proofs.Deciding.{call, same_call}
 use Rattle.irp_manager.specs.Seats.{Seated}
@@ -23,6 +24,8 @@ use Rattle.irp_script.specs.Numbers.{EachAsOften}
 use Rattle.irp_script.specs.Outcomes.{Outcome, outcomes}
 use Rattle.irp_script.specs.Pairs.{Pair}
 use Rattle.irp_script.specs.Ran.{Ran, seats_in}
+use Rattle.irp_script.specs.Stops.{terms_of}
+use Rattle.irp_script.specs.Told.{IsTold}
 use Rattle.irp_script.specs.Working.{AtWork}
 use Rattle.irp_script.specs.declared.stop.Stop.{Stop}
 use Rattle.irp_script.proofs.Accounted.{accounted}
@@ -125,9 +128,9 @@ made_own count outs before after closed entries new called back kept number lt =
     ap (λ k. calls_in (own_entries entries k)) (sym is.0) ∙ ap calls_in found.2 ∙ is.1
 
 -- so is what so many workers ran
-pub ran_shows : (workers : ℕ) (script : Script) (transcript : TranscriptValue) (stop : Option Stop) → 0 < workers → Ran workers script transcript stop → ShowsSteps script transcript stop
-ran_shows workers script transcript stop some ran =
-    let accounts = accounted script.locks workers (length script.labels) script.setup script.steps ran.before ran.after transcript.words stop some ran.made in
+pub ran_shows : (workers : ℕ) (script : Script) (fixed : Fixed) (transcript : TranscriptValue) (stop : Option Stop) → 0 < workers → Ran workers script fixed transcript stop → ShowsSteps script transcript stop
+ran_shows workers script fixed transcript stop some ran =
+    let accounts = accounted (terms_of fixed (IsTold script)) workers (length script.labels) script.setup script.steps ran.before ran.after transcript.words stop some ran.made in
     record {
       ways_first = accounts.ways_first;
       ways = accounts.ways;

@@ -181,7 +181,7 @@ pub record IsRanBy (workers : ℕ) (script : Script) (tables : Tables) (transcri
     : Type 0 where
   pub run : IsRun script tables transcript
   pub shows : ShowsSteps script transcript stop
-  pub ran : Ran workers script transcript stop
+  pub ran : Ran workers script (fixed_for script tables) transcript stop
 
 -- what came of a script with these tables that so many workers were to run. To its end: the transcript of such a run
 -- without a stop was written. Else there is no transcript, and nothing went out; or the transcript of one with this

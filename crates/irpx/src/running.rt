@@ -175,7 +175,8 @@ fn session<A: Ask + Send + Drop, L: Session + Send + Sync, T: Threads + Wait + S
     requires told { (asked : Asked) → ∥ L.may asked ∥₁ → ∥ IsTold script.now asked ∥₁ }
     ensures run { IfOk result (λ run. IsRun script.now (A.tables ask) run.transcript) }
     ensures shows { IfOk result (λ run. ShowsSteps script.now run.transcript run.stop) }
-    ensures ran { IfOk result (λ run. Ran workers script.now run.transcript run.stop) }
+    ensures ran { IfOk result (λ run.
+        Ran workers script.now (fixed_for script.now (A.tables ask)) run.transcript run.stop) }
     ensures err { IfErr result IsRunningFault }
 {
     let form = form_of(script.form);

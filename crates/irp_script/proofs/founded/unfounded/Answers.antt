@@ -4,5 +4,5 @@ use Rattle.irp_script.proofs.Readings.{all_founded}
 use Rattle.irp_script.proofs.founded.unfounded.Goals as goal
 
 pub returns : goal.returns
-returns g c = all_founded (λ worker. worker.known) c.args.workers.now c.args.known.now.packets (knowns_of c.args.workers.now)
+returns g c = all_founded (λ worker. worker.known) c.args.workers.now (knowns_of c.args.workers.now)
     (λ k one lt. c.loop-worker.invariant k one (search rules))

@@ -1,12 +1,14 @@
-use Rattle.std.proofs.Common.{◌≡◌, ◌++◌, ◌∷◌, [], cond, length, sym, ap, ◌∙◌, rules, arith}
-use Rattle.std.specs.Prelude.{sum_by}
+use Rattle.std.proofs.Common.{◌≡◌, ◌++◌, ◌∷◌, [], cond, length, sym, ap, subst, ◌∙◌, rules, arith}
+use Rattle.std.specs.Prelude.{IfNone, sum_by}
 use Rattle.std.specs.List.{count_by}
 use Rattle.std.specs.Option.{option_or}
 use Rattle.std.proofs.lemmas.List.Sorted.{sum_by-IsPermutation}
 use Rattle.std.proofs.lemmas.List.Sums.{sum_by-append, sum_by_push}
+use Rattle.irp_script.specs.Labels.{AreFounded}
+use Rattle.irp_script.specs.Workers.{knowns_of}
 use Rattle.irp_script.specs.Working.{first_stop}
 use Rattle.irp_script.proofs.Numbers.{sum_none}
-use Rattle.irp_script.proofs.Stopping.{first_last, none_yet}
+use Rattle.irp_script.proofs.Stopping.{first_last, none_of_them, none_yet}
 use Rattle.irp_script.proofs.run.gather.Goals as goal
 
 pub loop-worker-init : goal.loop-worker-init
@@ -53,3 +55,8 @@ returns-clause-seats g c =
     let so_far = c.loop-worker.invariant.seats test in
     let none = sum_none (λ worker. count_by test worker.seats.items) c.loop-worker.workers.items empty in
     omega (arith, so_far, none)
+
+pub returns-clause-labels : goal.returns-clause-labels
+returns-clause-labels g c =
+    none_of_them c.unfounded.result c.in_default.is
+    (subst (λ all. IfNone c.unfounded.result (AreFounded (knowns_of all))) c.as_slice.ensures.value c.unfounded.ensures)

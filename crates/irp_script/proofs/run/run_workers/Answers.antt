@@ -4,6 +4,7 @@ use Rattle.irp_script.specs.Labels.{known_to, none_bound}
 use Rattle.irp_script.specs.Workers.{work_of}
 use Rattle.irp_script.specs.Seats.{IsAtLocks, pair_in, seat_at_work}
 use Rattle.irp_script.proofs.Accounted.{accounted, numbers_of, pairs_of_items, same_pairs}
+use Rattle.irp_script.proofs.Entering.{due_own, due_steps}
 use Rattle.irp_script.proofs.Numbers.{if_ok_on}
 use Rattle.irp_script.proofs.Stopping.{not_some, some_stop}
 use Rattle.irp_script.proofs.Working.{begun, if_ok_all, own_from, work_apart}
@@ -56,6 +57,12 @@ returns-clause-seats g c = if_ok_on c.gather.result (λ worked same. numbers_of 
 
 pub returns-then-is_some-clause-seats : goal.returns-then-is_some-clause-seats
 returns-then-is_some-clause-seats g c = numbers_of c.args.seats.items c.run-ready.result.seats.items pair_in (returns-then-is_some-clause-pairs g c)
+
+pub run-ready-requires : goal.run-ready-requires
+run-ready-requires g c = due_own _ _ _ _ _
+
+pub run_all-requires-clause-gate : goal.run_all-requires-clause-gate
+run_all-requires-clause-gate g c = λ _ _. due_steps _
 
 pub deal-requires-clause-fits : goal.deal-requires-clause-fits
 deal-requires-clause-fits g c = subst (λ locks. All (IsAtLocks locks) c.run-ready.result.seats.items) (c.run-ready.ensures.locks ∙ c.new-all.ensures.locks) c.run-ready.result.fits

@@ -1,33 +1,24 @@
 -- The transcript that was closed, with the script's form and the word lines put in.
-use Rattle.std.proofs.Common.{rules, ◌≡◌, ◌<◌, List, Option, length, IfSome, sym, subst, ap, ◌∙◌}
-use Rattle.std.specs.List.{All}
+use Rattle.std.proofs.Common.{rules, ◌≡◌, ◌<◌, Option, length, IfSome, sym, subst, ap, ◌∙◌}
 use Rattle.std.specs.Vec.{vec_len}
 use Rattle.std.proofs.lemmas.Result.{IfOk-weaker}
-use Rattle.std.proofs.lemmas.List.Elements.{All-weaker}
-use Rattle.irp_types.specs.declared.asked.Asked.{Asked}
-use Rattle.irp_types.specs.declared.entry.Entry.{Entry}
 use Rattle.irp_types.specs.State.{Fixed}
 use Rattle.irp_transcript.specs.Headers.{IsHeader, slots_of as slots_in}
-use Rattle.irp_shared.specs.Answered.{EachAnswered}
 use Rattle.irp_transcript.specs.Transcripts.{TranscriptValue}
 use Rattle.irp_script.specs.Ran.{AreOpened, Ran}
 use Rattle.irp_script.specs.Seats.{seats_at_work}
+use Rattle.irp_script.specs.Stops.{terms_of}
 use Rattle.irp_script.specs.Told.{IsTold}
 use Rattle.irp_script.specs.Working.{RunsScript}
 use Rattle.irp_script.specs.declared.stop.Stop.{Stop}
+use Rattle.irp_script.proofs.Ends.{runs_so, told_each}
 use Rattle.irp_script.proofs.Ran.{all_opened, closed_ran}
-use Rattle.irpx.specs.Running.{IsRun, ShowsSteps, run_transcript}
+use Rattle.irpx.specs.Running.{IsRun, ShowsSteps, fixed_for, run_transcript}
 use Rattle.irpx.specs.declared.running.Finished.{Finished}
 use Rattle.irp_steps.proofs.Slots.{slots_same}
 use Rattle.irpx.proofs.Runs.{closed_is_run}
 use Rattle.irpx.proofs.Shown.{ran_shows}
 use Rattle.irpx.proofs.running.session.Goals as goal
-
--- what is answered in one way is answered in another
-told_each : (may other : Asked → Type 0) → ((asked : Asked) → ∥ may asked ∥₁ → ∥ other asked ∥₁) → (history : List Entry) → EachAnswered may history → EachAnswered other history
-told_each may other tells history each =
-    All-weaker (λ (entry : Entry). All (λ asked. ∥ may asked ∥₁) entry.asked) (λ (entry : Entry). All (λ asked. ∥ other asked ∥₁) entry.asked)
-    (λ entry all. All-weaker (λ asked. ∥ may asked ∥₁) (λ asked. ∥ other asked ∥₁) tells entry.asked all) history each
 
 pub returns-in-Ok-run_workers-clause-run : goal.returns-in-Ok-run_workers-clause-run
 returns-in-Ok-run_workers-clause-run g c =
@@ -56,18 +47,21 @@ returns-in-Ok-run_workers-clause-ran g c =
     (c.slots.ensures ∙ ap slots_in c.form_of-form.ensures ∙ slots_same script.form)
     (λ k d lt. made.counted k d lt ∙ ap (λ key. key.slots) c.in-Ok-open-2.ensures.parties)
     c.in-Ok-open-2.ensures.owners (made.all_owners some) many made.owners made.taken in
-    let chains : RunsScript script.locks c.args.workers (length script.labels) script.setup script.steps (seats_at_work pairs) (seats_at_work worked.seats.items) worked.words.items worked.stop =
-    subst (λ locks. RunsScript locks c.args.workers (length script.labels) script.setup script.steps (seats_at_work pairs) (seats_at_work worked.seats.items) worked.words.items worked.stop)
-    (ap (λ (fixed : Fixed). fixed.locks) c.requires.fixed) c.in-Ok-run_workers.ensures.ran in
-    IfOk-weaker c.finish.result _ (λ (run : Finished). Ran c.args.workers script run.transcript run.stop)
+    let fixed = fixed_for script (g.A.Ask.tables c.args.ask) in
+    let chains : RunsScript (terms_of fixed (IsTold script)) c.args.workers (length script.labels) script.setup script.steps (seats_at_work pairs) (seats_at_work worked.seats.items) worked.words.items worked.stop =
+    subst (λ (fixed : Fixed). RunsScript (terms_of fixed (IsTold script)) c.args.workers (length script.labels) script.setup script.steps (seats_at_work pairs) (seats_at_work worked.seats.items) worked.words.items worked.stop)
+    c.requires.fixed
+    (runs_so g.L.Session.fixed g.L.Session.may (IsTold script) c.requires.told c.args.workers (length script.labels) script.setup script.steps (seats_at_work pairs) (seats_at_work worked.seats.items) worked.words.items worked.stop
+    c.in-Ok-run_workers.ensures.ran) in
+    IfOk-weaker c.finish.result _ (λ (run : Finished). Ran c.args.workers script fixed run.transcript run.stop)
     (λ run ends.
     let closed : TranscriptValue = run_transcript script.form worked.words.items ends.2 in
-    subst (λ (transcript : TranscriptValue). Ran c.args.workers script transcript run.stop) (sym ends.4)
-    (subst (λ (stop : Option Stop). Ran c.args.workers script closed stop) (sym ends.6)
-    (closed_ran c.args.workers script pairs worked.seats.items ends.0 closed worked.stop opened chains ends.1 ends.3.own)))
+    subst (λ (transcript : TranscriptValue). Ran c.args.workers script fixed transcript run.stop) (sym ends.4)
+    (subst (λ (stop : Option Stop). Ran c.args.workers script fixed closed stop) (sym ends.6)
+    (closed_ran c.args.workers script fixed pairs worked.seats.items ends.0 closed worked.stop opened chains ends.1 ends.3.own)))
     c.finish.ensures.ok
 
 pub returns-in-Ok-run_workers-clause-shows : goal.returns-in-Ok-run_workers-clause-shows
 returns-in-Ok-run_workers-clause-shows g c =
     IfOk-weaker c.finish.result _ (λ (run : Finished). ShowsSteps c.args.script.now run.transcript run.stop)
-    (λ run ran. ran_shows c.args.workers c.args.script.now run.transcript run.stop c.requires.workers ran) (returns-in-Ok-run_workers-clause-ran g c)
+    (λ run ran. ran_shows c.args.workers c.args.script.now (fixed_for c.args.script.now (g.A.Ask.tables c.args.ask)) run.transcript run.stop c.requires.workers ran) (returns-in-Ok-run_workers-clause-ran g c)

@@ -1,4 +1,6 @@
 use Rattle.std.proofs.Common.{refl, ◌∙◌, rules}
+use Rattle.irp_script.specs.Stops.{terms_of}
+use Rattle.irp_script.proofs.Entering.{admits_next}
 use Rattle.irp_script.proofs.Stopping.{stops_own, when_ok}
 use Rattle.irp_script.proofs.Working.{makes_more}
 use Rattle.irp_script.proofs.worker.Worker.run.Goals as goal
@@ -15,7 +17,12 @@ loop-index-preserved g c = record {
   made = makes_more _ _ _ c.args.steps.now c.loop-index.index _ _ _ _ _ _ (search rules) c.loop-index.invariant.made c.loop-index.invariant.number c.loop-index.invariant.workers (when_ok _ c.turn.result c.in_default.not-Err c.turn.ensures.turned);
 }
 
+pub turn-requires : goal.turn-requires
+turn-requires g c =
+    admits_next (g.G.StepGate.admits c.args.gate.now) _ _ _ c.args.steps.now _ _ c.loop-index.index _ _ _ (search rules) c.requires
+    c.loop-index.invariant.made c.loop-index.invariant.number c.loop-index.invariant.workers
+
 pub returns-in-Err-clause-made : goal.returns-in-Err-clause-made
 returns-in-Err-clause-made g c =
-    stops_own _ _ _ _ c.loop-index.index _ _ _ _ _ _ c.in-Err.stop _ (search rules) c.loop-index.invariant.made c.loop-index.invariant.number c.loop-index.invariant.workers
+    stops_own (terms_of g.L.Session.fixed g.L.Session.may) _ _ _ c.loop-index.index _ _ _ _ _ _ c.in-Err.stop _ (search rules) c.loop-index.invariant.made c.loop-index.invariant.number c.loop-index.invariant.workers
     c.in-Err.ensures.stayed.0 c.in-Err.ensures.stayed.1 refl

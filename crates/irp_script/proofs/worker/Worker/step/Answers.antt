@@ -2,6 +2,7 @@ use Rattle.std.proofs.Common.{◌≡◌, ◌<◌, length, map, refl, sym, ap, ap
 use Rattle.std.proofs.lemmas.List.{length-map, with_items_is}
 use Rattle.std.specs.Vec.{with_item, with_items}
 use Rattle.irp_script.specs.Seats.{number_of, seat_at_work, seats_at_work}
+use Rattle.irp_script.specs.Stops.{terms_of}
 use Rattle.irp_script.specs.declared.stop.StopReason.TheVariants.{NoSeat}
 use Rattle.irp_script.specs.Working.{caught_up, news}
 use Rattle.irp_script.proofs.Places.{told_at}
@@ -37,7 +38,7 @@ returns-in-Err-clause-made g c =
     (sym (length-map c.all_saw.new.seats seat_at_work) ∙ ap length c.all_saw.ensures.saw
     ∙ length-map (seats_at_work c.as_mut_slice.result.now) (caught_up c.news-length.result)
     ∙ length-map c.as_mut_slice.result.now seat_at_work ∙ c.as_mut_slice.ensures.len) in
-    made_none seat_at_work c.args.self.now.seats.items (with_items changed c.all_saw.new.seats).items c.in-Some.at c.step-made.new.self c.index_mut-own.result.now _ _ _ _ _ c.args.step c.in-Err.reason c.news-length.result
+    made_none (terms_of g.L.Session.fixed g.L.Session.may) seat_at_work c.args.self.now.seats.items (with_items changed c.all_saw.new.seats).items c.in-Some.at c.step-made.new.self c.index_mut-own.result.now _ _ _ _ _ c.args.step c.in-Err.reason c.news-length.result
     within c.index_mut-own.ensures.value own
     (c.news-length.ensures ∙ ap₂ news c.seen-before.ensures c.seen.ensures)
     (ap seats_at_work whole ∙ c.all_saw.ensures.saw ∙ ap (λ seats. map (caught_up c.news-length.result) (seats_at_work seats)) c.as_mut_slice.ensures.value)
@@ -47,7 +48,7 @@ returns-in-Err-clause-made g c =
 pub returns-in_default-place_of-clause-made : goal.returns-in_default-place_of-clause-made
 returns-in_default-place_of-clause-made g c = (
   refl,
-  by_alone c.args.step (kind_of c.args.step.act) (seats_at_work c.args.self.now.seats.items) NoSeat
+  by_alone (terms_of g.L.Session.fixed g.L.Session.may) c.args.step (kind_of c.args.step.act) (seats_at_work c.args.self.now.seats.items) NoSeat
       (λ hand is. c.in_default.not-Hands hand (c.kind_of.ensures ∙ is))
       (inl (refl, no_seat seat_at_work c.args.self.now.seats.items c.args.step.seat (none_of_them c.place_of.result c.in_default-place_of.is c.place_of.ensures.none))),
 )

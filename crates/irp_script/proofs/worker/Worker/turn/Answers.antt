@@ -2,6 +2,9 @@ use Rattle.std.proofs.Common.{rules}
 use Rattle.irp_script.proofs.Working.{turn_makes, turn_passes, turn_skips}
 use Rattle.irp_script.proofs.worker.Worker.turn.Goals as goal
 
+pub pass-requires-clause-admits : goal.pass-requires-clause-admits
+pass-requires-clause-admits g c = c.requires (search rules) (search rules)
+
 pub returns-then-not-has-clause-turned : goal.returns-then-not-has-clause-turned
 returns-then-not-has-clause-turned g c = turn_skips _ _ _ _ _ _ (search rules)
 
