@@ -25,9 +25,10 @@ bool put_status_back(Packet *p)
     return is_unset;
 }
 
-/* A device completes it. One that doesn't own it is told for that. */
+/* A device completes it. One that has given it away is told for that. */
 void check_status_set(Packet *p, int by)
 {
-    if (put_status_back(p) && by >= 0 && p->owner == by)
+    const bool is_its = p->owner == by || (p->asking && p->asking->device == by);
+    if (put_status_back(p) && by >= 0 && is_its)
         broken("NoStatus", p, "%s completes it, and no driver has set Irp->IoStatus.Status", who(by));
 }
