@@ -4,7 +4,6 @@ use Rattle.std.specs.Prelude.{IfSome, slice_get}
 use Rattle.std.proofs.lemmas.Option.{slice_get_within}
 use Rattle.std.proofs.lemmas.List.{append_assoc}
 use Rattle.irp_types.specs.declared.entry.Entry.{Entry}
-use Rattle.irp_condition.specs.declared.condition.Condition.{Condition}
 use Rattle.irp_names.specs.Sinks.{Says}
 use Rattle.irp_names.proofs.Saying.{says_both}
 use Rattle.irp_orders.specs.Judging.{IsVerdict}
@@ -25,25 +24,7 @@ says_from words text out new says is = by out (subst (λ (new : Option (List ℕ
     by None says = absurd says
     by (Some before) says = (before, refl, says)
 
--- nothing more is told of an outcome that meets a condition
-pub shown_never : (columns : Columns) (question : Question) (number place : ℕ) (found : Found) (out after : Option (List ℕ)) (text : List ℕ)
-    → number ≡ number_at place → ((before : List ℕ) → Explains columns question found before before)
-    → PutsShown columns number found out after → after ≡ Some text → IsShownIn columns question place found out text
-shown_never columns question number place found out after text at explains puts is =
-    let lines = shown_lines columns number found puts.0 in
-    let from = says_from lines text out after puts.2 is in
-    let same : text ≡ from.0 ++ shown_lines columns (number_at place) found puts.0 =
-    subst (λ (k : ℕ). text ≡ from.0 ++ shown_lines columns k found puts.0) at from.2 in (
-      from.0,
-      from.1,
-      (
-        puts.0,
-        puts.1,
-        subst (λ (before : List ℕ). Explains columns question found before text) same (explains text),
-      ),
-    )
-
--- and why an outcome isn't right is told behind it
+-- why an outcome isn't right is told behind its lines
 pub shown_wrong : (columns : Columns) (question : Question) (setup : List Entry) (number place : ℕ) (found : Found)
     (out between after : Option (List ℕ)) (middle text : List ℕ) → number ≡ number_at place
     → ((before after : List ℕ)

@@ -1,11 +1,10 @@
 -- The table grows row by row.
 use Rattle.std.proofs.Common.{◌≡◌, ◌<◌, ◌+◌, ℕ, suc, List, [], ◌∷◌, ◌++◌, length, take, get_or, Option, Some, refl, sym, subst, ap, ◌∙◌, arith}
-use Rattle.std.proofs.Math.Seq.{take-length}
 use Rattle.std.proofs.lemmas.List.{append-nil, append_assoc, length-take-le, take_more}
 use Rattle.irp_names.specs.Sinks.{Says}
 use Rattle.irp_names.proofs.Saying.{says_both}
 use Rattle.irp_orders.specs.Lines.{PutsDiffering, differing_lines}
-use Rattle.irp_orders.specs.Table.{AreRowTexts, IsRowText, IsTable, PutsRow, end_lines, head_line, row_lines, table_head}
+use Rattle.irp_orders.specs.Table.{AreRowTexts, IsRowText, PutsRow, end_lines, head_line, row_lines, table_head}
 use Rattle.irp_orders.specs.declared.columns.Columns.{Columns}
 use Rattle.irp_orders.specs.declared.found.Found.{Found}
 
@@ -74,14 +73,4 @@ tells_more columns rows place row between after within is told puts =
           (subst (λ (k : ℕ). IsRowText columns k row puts.0) number puts.1)),
       subst (λ (whole : List ℕ). Says whole (Some []) after) (append_assoc head told.0 puts.0)
           (says_both (head ++ told.0) puts.0 (Some []) between after told.2 puts.2),
-    )
-
--- with all of them it is the table
-pub tells_table : (columns : Columns) (rows : List Found) (out : Option (List ℕ)) (text : List ℕ)
-    → TellsRows columns rows (length rows) out → out ≡ Some text → IsTable columns rows text
-tells_table columns rows out text told is =
-    let whole = table_head (length rows) columns.orders ++ told.0 in (
-      told.0,
-      subst (λ (some : List Found). AreRowTexts columns 1 some told.0) (take-length rows) told.1,
-      subst (λ (out : Option (List ℕ)). Says whole (Some []) out) is told.2,
     )

@@ -15,7 +15,7 @@ use Rattle.irp_steps.specs.declared.step_kind.StepKind.TheVariants.{Calls, OnLoc
 use Rattle.irp_script.specs.AtSlots.{AtSlots}
 use Rattle.irp_script.specs.Labels.{Known}
 use Rattle.irp_script.specs.Stops.{IsUnmade, IsUnrecorded, terms_of}
-use Rattle.irp_script.specs.Working.{AloneStops, AtWork, IsStopAt, MakesOwn, RunsScript, StopsAt, StopsBy, WorkAfter, WorkApart, Working}
+use Rattle.irp_script.specs.Working.{AloneStops, AtWork, IsStopAt, MakesOwn, RunsScript, StopsAt, StopsBy, WorkAfter, Working}
 use Rattle.irp_script.specs.declared.stop.Stop.{Stop}
 use Rattle.irp_script.specs.declared.stop.StopReason.{StopReason}
 use Rattle.irp_script.specs.declared.stop.StopReason.TheVariants as reason

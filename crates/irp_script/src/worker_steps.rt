@@ -11,7 +11,6 @@ ghost use Rattle.std.specs.Prelude.{
   ◌∷◌,
   [],
   true,
-  false,
   All,
   if◌then◌else◌,
   length,
@@ -59,7 +58,7 @@ use crate::worker::Worker;
 use irp_remove::Locks;
 use irp_routines::Ask;
 use irp_script_reader::Step;
-use irp_shared::{Act, Session, WordLine, WordReply};
+use irp_shared::{Act, Session, WordReply};
 use irp_steps::{Answered, StepKind, holds, kind_of, named_answer};
 use irp_types::{Hand, LockNo};
 use std::alloc::AllocError;

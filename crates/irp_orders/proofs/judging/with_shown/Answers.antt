@@ -1,5 +1,5 @@
 -- Why an outcome isn't right stands behind its lines.
-use Rattle.std.proofs.Common.{◌≡◌, ◌∙◌, Some, ap, subst, sym}
+use Rattle.std.proofs.Common.{◌∙◌, Some, ap, subst, sym}
 use Rattle.std.specs.Vec.{vec_items}
 use Rattle.irp_orders.specs.Told.{Explains}
 use Rattle.irp_orders.specs.declared.judging.Question.{Question}
