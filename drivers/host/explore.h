@@ -50,7 +50,7 @@ typedef struct {
     _Atomic int busy;          /* processes that run, and don't wait for others */
     unsigned long free_choices, priced_choices; /* of that run */
     _Atomic unsigned long runs, cut, beyond, begun; /* beyond: choices that cost more than the bound; begun: that cost it */
-    _Atomic unsigned long most_decisions, most_points, n_classes, n_transcripts;
+    _Atomic unsigned long most_decisions, most_points, n_classes;
     _Atomic int n_racy;
     int n_active;              /* the first so many racy places are points */
     uint32_t racy[MAX_RACY];
@@ -108,12 +108,9 @@ void remember_fault(void);
 const char *schedule_text(const Schedule *s);
 bool read_schedule(const char *text, Schedule *s);
 
-/* normal.c */
-uint64_t normal_hash(const char *text);
-
 /* ending.c: how a run ended, and what is kept of it. */
 bool wants_transcript(void);
-void hand_in(const char *text, size_t length, size_t entries);
+void hand_in(uint64_t transcripts_hash, size_t entries);
 void note_failure(const Schedule *s, int cost, const char *why);
 
 #endif
