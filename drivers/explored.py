@@ -454,5 +454,6 @@ def tests(run, bench):
               for it, most in going_back.BY_BOTH.items()]
     found += [("limits", lambda: limits.tests(bench))]
     found += [("orders by snapshots, endings", lambda: going_back.test_endings(ends(run, bench, "endings"))),
-              ("orders by forks, calls", lambda: going_back.test_calls(lambda text: ends(run, bench, "calls", text=text)))]
+              ("orders by forks, calls", lambda: going_back.test_calls(lambda text: ends(run, bench, "calls", text=text))),
+              ("orders by forks, coverage", lambda: going_back.test_coverage(bench, HERE + "/stacks/late.c"))]
     return found + [(f"wrong explorer {it[0]}", lambda it=it: test_wrong(run, bench, *it)) for it in WRONG + going_back.WRONG]

@@ -218,7 +218,7 @@ def explore(options, program, folder, settings, tells=False):
         setting.update(WDM_PART=str(int(part) - 1), WDM_PARTS=parts)
     if tells:
         subprocess.run(words, env=dict(setting, WDM_EXPLORE="-1"), stdout=subprocess.DEVNULL, check=False)
-        tell_estimate(Report(path), options.preemptions)
+        tell_estimate(Report(path), options.preemptions + getattr(options, "goes_further", False))
     subprocess.run(words, env=setting, stdout=subprocess.DEVNULL, check=False)
     return Report(path)
 
@@ -292,7 +292,7 @@ def tell_next(report):
     times = last["beyond"] / last["expected"]
     seconds = max((last["seconds"] - rounds[-2]["seconds"]) * times, 1)
     print(f"with {plural(last['bound'] + 1, 'preemption')} it would be about {plural(last['runs'] * times, 'run')}, "
-          f"{plural(seconds, 'second')} (estimated)")
+          f"{plural(round(seconds), 'second')} (estimated)")
 
 
 def tell_small(report):
