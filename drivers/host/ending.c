@@ -96,9 +96,9 @@ static void count_outcome(void)
     for (size_t i = hash % MAX_OUTCOMES, n = 0; n < MAX_OUTCOMES; n++, i = (i + 1) % MAX_OUTCOMES) {
         Outcome *o = &shared->outcomes[i];
         uint64_t none = 0;
-        if (atomic_compare_exchange_strong(&o->hash, &none, hash))
+        if (atomic_compare_exchange_strong(&shared->outcome_hashes[i], &none, hash))
             snprintf(o->text, sizeof o->text, "%.*s", (int)sizeof o->text - 1, text);
-        if (o->hash == hash) {
+        if (shared->outcome_hashes[i] == hash) {
             o->classes++;
             return;
         }

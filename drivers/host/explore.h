@@ -23,7 +23,6 @@ typedef struct { /* a place at which a thread was, or could have been, preempted
 } Site;
 
 typedef struct {
-    _Atomic uint64_t hash;
     _Atomic unsigned long classes; /* how many classes of orders lead there */
     char text[OUTCOME_TEXT];
 } Outcome;
@@ -57,7 +56,8 @@ typedef struct {
     uint8_t is_point[1 << 16], is_racy[1 << 16];
     uint8_t is_update[1 << 16]; /* in a line that changes what it reads */
     Site sites[MAX_SITES];
-    Outcome *outcomes;         /* MAX_OUTCOMES of them */
+    _Atomic uint64_t outcome_hashes[MAX_OUTCOMES]; /* by these each is found, and they take few pages */
+    Outcome *outcomes;         /* MAX_OUTCOMES of them, each where its hash is */
     _Atomic unsigned long n_failed; /* runs that fail */
     _Atomic unsigned long n_limited; /* that the host didn't make to their end, and why the first of them */
     char limit[200];

@@ -27,6 +27,8 @@ bool is_packets_page(const char *address)
     return all->arena && address >= all->arena && address < all->arena + (size_t)MAX_PACKETS * PAGE;
 }
 
+bool is_packet_page_open(size_t i) { return by_snapshots && all->states[i] == OPEN; }
+
 static char *page_at(size_t i) { return all->arena + i * PAGE; }
 static char *beside(size_t i) { return all->beside + i * PAGE; }
 
