@@ -23,6 +23,7 @@ WRONG = [
 ENDS = """#include <wdm.h>
 #include "wdm_test.h"
 #include <pthread.h>
+#include <unistd.h>
 
 static pthread_mutex_t lock = PTHREAD_MUTEX_INITIALIZER;
 static int is_between;
@@ -48,7 +49,8 @@ static void end_badly(void)
     case 'j': ((void (*)(void))16)(); break;
     case 'l': for (;;) zero = zero + 1;
     case 't': ended->IoStatus.Information = 1; break;
-    case 's': if (IoGetRemainingStackSize() < 1 << 16) abort();
+    case 's': if (IoGetRemainingStackSize() < 1 << 16) abort(); break;
+    case 'q': _exit(7);
     }
 }
 
@@ -90,7 +92,8 @@ int main(int argc, char **argv)
     return WdmFinish();
 }
 """
-ENDINGS = ["well", "null", "abort", "exit", "overflow", "division", "jump", "touch", "stack", "deep"]
+ENDINGS = ["well", "null", "abort", "exit", "overflow", "division", "jump", "touch", "stack", "quits", "deep"]
+NEED_FORKS = ["quits", "deep"]
 ASKED = "a test asks for it"
 
 
@@ -125,17 +128,17 @@ def test_stack(made, name):
 
 
 def test_endings(made):
-    """Ends that a process comes through, and one for which it needs forks."""
+    """Ends that a process comes through, and those for which it needs forks."""
     for made.options.args in ENDINGS:
         forks, _ = found_by(made, "forks", WDM_GO_ON="1")
         snapshots, why = found_by(made, "snapshots", WDM_GO_ON="1")
         wrong = difference(forks, snapshots)
-        if bool(why) != (made.options.args == "deep"):
+        if bool(why) != (made.options.args in NEED_FORKS):
             wrong = f"forks: {why}"
         yield f"an end by snapshots as by forks: {made.options.args}", wrong
 
 
-HEADERS = ["fcntl.h", "pthread.h", "signal.h", "stdio.h", "time.h", "unistd.h"]
+HEADERS = ["fcntl.h", "pthread.h", "signal.h", "stdio.h", "time.h"]
 # What snapshots don't put back, or what fails over pages that they have closed: what a test does, and the functions for that.
 CALLS = {
     "opens files": ('fclose(fopen("/dev/null", "r"));', "fclose, fopen"),
