@@ -15,6 +15,8 @@ WRONG = [
      "i < p->n ? p->versions[i] : h->last;", "classes", "watchdog"),
     ("a packet's page is left open", "packet_pages.c", "state == OPEN ? PROT_READ | PROT_WRITE : PROT_NONE",
      "PROT_READ | PROT_WRITE", "ending", "touch"),
+    ("what a closed packet's page has in it counts as known", "packet_pages.c", "all->stamps[i] = ++all->last;",
+     "all->stamps[i] = 1;", "classes", "keyboard"),
     ("a lost process isn't seen", "explore.c", "return shared->n_begun != shared->n_ended &&",
      "return shared->n_begun < shared->n_ended &&", "ending", "deep"),
 ]
