@@ -9,6 +9,7 @@ import re
 import shutil
 import subprocess
 
+import distinct
 import going_back
 import limits
 import orders
@@ -397,11 +398,7 @@ def test_distinct(run, bench):
     """Transcripts that are kept differ in more than in seats, slots and use numbers."""
     made = Explored(run, bench, "distinct", Options(bench.cc, HERE + "/stacks/removal.c", 1))
     made.report()
-    texts = []
-    for it in os.listdir(made.folder + "/orders"):
-        if it.isdigit():
-            with open(f"{made.folder}/orders/{it}", encoding="utf-8") as file:
-                texts.append(file.read())
+    texts = [it.text().decode() for it in distinct.found_in(made.folder + "/transcripts")]
     same = len(texts) - len({normal(it) for it in texts})
     yield f"{len(texts)} transcripts that are kept are distinct", f"{same} are as others" if same or len(texts) < 2 else None
 
@@ -457,5 +454,6 @@ def tests(run, bench):
               for it, most in going_back.BY_BOTH.items()]
     found += [("limits", lambda: limits.tests(bench))]
     found += [("orders by snapshots, endings", lambda: going_back.test_endings(ends(run, bench, "endings"))),
-              ("orders by forks, calls", lambda: going_back.test_calls(lambda text: ends(run, bench, "calls", text=text)))]
+              ("orders by forks, calls", lambda: going_back.test_calls(lambda text: ends(run, bench, "calls", text=text))),
+              ("orders by forks, coverage", lambda: going_back.test_coverage(bench, HERE + "/stacks/late.c"))]
     return found + [(f"wrong explorer {it[0]}", lambda it=it: test_wrong(run, bench, *it)) for it in WRONG + going_back.WRONG]

@@ -1,6 +1,8 @@
 """Tests of snapshots in place of forks: the same classes and the same failures by both, programs that need forks, and
 snapshots made wrong."""
 
+import re
+
 # Stacks whose orders are made by forks as well: with how many preemptions; and those where `compared` is chosen.
 BY_BOTH = {"removal": 1, "keyboard": 1, "power": 1, "handover": 1, "watchdog": 2, "shared": 1}
 LONGER = {"removal": 2, "keyboard": 2, "power": 2, "handover": 2, "samples": 1, "split": 1}
@@ -13,6 +15,8 @@ WRONG = [
      "i < p->n ? p->versions[i] : h->last;", "classes", "watchdog"),
     ("a packet's page is left open", "packet_pages.c", "state == OPEN ? PROT_READ | PROT_WRITE : PROT_NONE",
      "PROT_READ | PROT_WRITE", "ending", "touch"),
+    ("what a closed packet's page has in it counts as known", "packet_pages.c", "all->stamps[i] = ++all->last;",
+     "all->stamps[i] = 1;", "classes", "keyboard"),
     ("a lost process isn't seen", "explore.c", "return shared->n_begun != shared->n_ended &&",
      "return shared->n_begun < shared->n_ended &&", "ending", "deep"),
 ]
@@ -21,6 +25,7 @@ WRONG = [
 ENDS = """#include <wdm.h>
 #include "wdm_test.h"
 #include <pthread.h>
+#include <unistd.h>
 
 static pthread_mutex_t lock = PTHREAD_MUTEX_INITIALIZER;
 static int is_between;
@@ -46,6 +51,8 @@ static void end_badly(void)
     case 'j': ((void (*)(void))16)(); break;
     case 'l': for (;;) zero = zero + 1;
     case 't': ended->IoStatus.Information = 1; break;
+    case 's': if (IoGetRemainingStackSize() < 1 << 16) abort(); break;
+    case 'q': _exit(7);
     }
 }
 
@@ -87,7 +94,8 @@ int main(int argc, char **argv)
     return WdmFinish();
 }
 """
-ENDINGS = ["well", "null", "abort", "exit", "overflow", "division", "jump", "touch", "deep"]
+ENDINGS = ["well", "null", "abort", "exit", "overflow", "division", "jump", "touch", "stack", "quits", "deep"]
+NEED_FORKS = ["quits", "deep"]
 ASKED = "a test asks for it"
 
 
@@ -122,27 +130,46 @@ def test_stack(made, name):
 
 
 def test_endings(made):
-    """Ends that a process comes through, and one for which it needs forks."""
+    """Ends that a process comes through, and those for which it needs forks."""
     for made.options.args in ENDINGS:
         forks, _ = found_by(made, "forks", WDM_GO_ON="1")
         snapshots, why = found_by(made, "snapshots", WDM_GO_ON="1")
         wrong = difference(forks, snapshots)
-        if bool(why) != (made.options.args == "deep"):
+        if bool(why) != (made.options.args in NEED_FORKS):
             wrong = f"forks: {why}"
         yield f"an end by snapshots as by forks: {made.options.args}", wrong
 
 
-CALLS = """    FILE *nothing = fopen("/dev/null", "r");
-    fclose(nothing);
-    return WdmFinish();
-"""
+HEADERS = ["fcntl.h", "pthread.h", "signal.h", "stdio.h", "time.h"]
+# What snapshots don't put back, or what fails over pages that they have closed: what a test does, and the functions for that.
+CALLS = {
+    "opens files": ('fclose(fopen("/dev/null", "r"));', "fclose, fopen"),
+    "reads into memory of its own": ("static char own[9000];\n    if (read(open(\"/dev/zero\", 0), own + 4096, 100) != 100)\n"
+                                     "        abort();", "open, read"),
+    "opens another file under a number": ('close(0);\n    open("/dev/zero", O_RDWR);', "close, open"),
+    "sets a signal's handler": ("signal(SIGUSR1, SIG_IGN);", "signal"),
+    "asks for the processor's time": ("if (clock() == -1)\n        abort();", "clock"),
+}
 
 
 def test_calls(explored_of):
-    """A test that opens a file: forks, and a line that says so."""
-    made = explored_of(ENDS.replace("    return WdmFinish();\n", CALLS).replace("#include <pthread.h>\n", "#include <pthread.h>\n#include <stdio.h>\n"))
-    _, why = found_by(made, "itself")
-    yield "forks for what opens files", None if why and "fclose, fopen" in why else str(why)
+    """Tests that need forks, and a line that says so."""
+    headers = "".join(f"#include <{it}>\n" for it in HEADERS)
+    for what, (code, calls) in CALLS.items():
+        text = ENDS.replace("#include <pthread.h>\n", headers)
+        made = explored_of(text.replace("    return WdmFinish();\n", f"    {code}\n    return WdmFinish();\n"))
+        found, why = found_by(made, "itself")
+        well = found["ended"] == "done" and why and f"it calls {calls}," in why
+        yield f"forks for what {what}", None if well else f"{found['ended']}, {why}"
+
+
+def test_coverage(bench, source):
+    """The compiler's counts under every order: forks, each line that ran in any order, and as many classes as without."""
+    words = ["--every-order", "--preemptions", "1", "--processes", "1", "--judge", "1", source]
+    one, two = (bench.ran(*more, *words).stdout for more in ([], ["--coverage"]))
+    wrong = [it for it in ("since counts of lines that ran would be put back\n", "\nlines       ") if it not in two]
+    classes = [re.findall(r", (\d+) class\w* of orders", it) for it in (one, two)]
+    yield "which lines ran in any order", f"{wrong}, {classes}: {two}" if wrong or classes[0] != classes[1] else None
 
 
 def wrong_ending(right, wrong, name):

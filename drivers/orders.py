@@ -15,6 +15,7 @@ import sys
 import tempfile
 
 import covering
+import distinct
 import places
 import snapshots
 
@@ -198,11 +199,11 @@ def updates(program, racy):
 
 def explore(options, program, folder, settings, tells=False):
     """Has the orders made, and tells before about how many there are. Returns the report."""
-    orders, path = folder + "/orders", folder + "/report"
-    shutil.rmtree(orders, ignore_errors=True)
-    os.makedirs(orders)
+    kept, path = folder + "/transcripts", folder + "/report"
+    with open(kept, "wb"):
+        pass
     setting = dict(os.environ, **settings, WDM_EXPLORE=str(options.preemptions), WDM_REPORT=path,
-                   WDM_ORDERS=orders, WDM_SECONDS=str(int(options.minutes * 60)))
+                   WDM_ORDERS=kept, WDM_SECONDS=str(int(options.minutes * 60)))
     setting.setdefault("WDM_CLASSES", folder + "/classes")
     setting.pop("WDM_TRANSCRIPT", None)
     if snapshots.why_forks(folder):
@@ -217,7 +218,7 @@ def explore(options, program, folder, settings, tells=False):
         setting.update(WDM_PART=str(int(part) - 1), WDM_PARTS=parts)
     if tells:
         subprocess.run(words, env=dict(setting, WDM_EXPLORE="-1"), stdout=subprocess.DEVNULL, check=False)
-        tell_estimate(Report(path), options.preemptions)
+        tell_estimate(Report(path), options.preemptions + getattr(options, "goes_further", False))
     subprocess.run(words, env=setting, stdout=subprocess.DEVNULL, check=False)
     return Report(path)
 
@@ -291,7 +292,7 @@ def tell_next(report):
     times = last["beyond"] / last["expected"]
     seconds = max((last["seconds"] - rounds[-2]["seconds"]) * times, 1)
     print(f"with {plural(last['bound'] + 1, 'preemption')} it would be about {plural(last['runs'] * times, 'run')}, "
-          f"{plural(seconds, 'second')} (estimated)")
+          f"{plural(round(seconds), 'second')} (estimated)")
 
 
 def tell_small(report):
@@ -351,26 +352,23 @@ def shorter(schedule, try_it):
     return ",".join(([places] if places else []) + deviations) or "usual"
 
 
-def verdict_of(irpx, path):
-    with open(path, encoding="utf-8") as it:
-        made = subprocess.run([irpx, "check"], stdin=it, capture_output=True, text=True, check=False)
-    return made.stdout.strip() or made.stderr.strip()
+def verdict_of(irpx, transcript):
+    made = subprocess.run([irpx, "check"], input=transcript.text(), capture_output=True, check=False)
+    return made.stdout.decode().strip() or made.stderr.decode().strip()
 
 
 def judge(options, irpx, folder, quiet=False):
     """Has distinct transcripts judged, each, or as many as --judge says. Returns the first that isn't legal, with its
     verdict, or None."""
-    orders = folder + "/orders"
-    names = sorted((it for it in os.listdir(orders) if it.isdigit()), key=int)
-    step = max(1, -(-len(names) // options.judge)) if options.judge else 1
-    chosen = names[::step]
+    found = distinct.found_in(folder + "/transcripts")
+    step = max(1, -(-len(found) // options.judge)) if options.judge else 1
+    chosen = found[::step]
     with concurrent.futures.ThreadPoolExecutor(options.processes or os.cpu_count()) as pool:
-        for name, said in zip(chosen, pool.map(lambda it: verdict_of(irpx, f"{orders}/{it}"), chosen)):
+        for it, said in zip(chosen, pool.map(lambda it: verdict_of(irpx, it), chosen)):
             if not said.startswith("legal "):
-                with open(f"{orders}/{name}.schedule", encoding="utf-8") as it:
-                    return it.read(), said
+                return it.schedule, said
     if not quiet:
-        print(f"judged: {plural(len(chosen), 'distinct transcript')}{f' of {len(names)}' if step > 1 else ''}, legal")
+        print(f"judged: {plural(len(chosen), 'distinct transcript')}{f' of {len(found)}' if step > 1 else ''}, legal")
     return None
 
 

@@ -340,14 +340,13 @@ ORDER = [("recording.c", "    Entry *e = calloc(1, sizeof *e);\n", "    Entry *e
           "    e->number = n_history;\n    ((size_t *)(e + 1))[1] = stamp++;\n"),
          ("sending.c", "    e->reply = STATUS;\n",
           "    extern size_t stamp;\n    ((size_t *)(e + 1))[1] = stamp++;\n    e->reply = STATUS;\n"),
-         ("writing.c", "    char *text = NULL;\n    size_t length = 0, n = 0;\n",
-          "    char *text = NULL;\n    size_t length = 0, n = 0;\n"
-          "    qsort(history, n_history, sizeof *history, by_order);\n"
+         ("writing.c", "    begin_hash(&t);\n",
+          "    begin_hash(&t);\n    qsort(history, n_history, sizeof *history, by_order);\n"
           "    for (size_t i = 0; i < n_history; i++)\n        history[i]->number = i;\n"),
-         ("writing.c", "/* Writes the history up to", "static int by_order(const void *a, const void *b)\n{\n"
+         ("writing.c", "/* The history up to", "static int by_order(const void *a, const void *b)\n{\n"
           "    const Entry *x = *(Entry *const *)a, *y = *(Entry *const *)b;\n"
           "    const size_t m = ((const size_t *)(x + 1))[KEY], n = ((const size_t *)(y + 1))[KEY];\n"
-          "    return m < n ? -1 : m > n;\n}\n\n/* Writes the history up to")]
+          "    return m < n ? -1 : m > n;\n}\n\n/* The history up to")]
 
 
 def by(key):

@@ -8,10 +8,11 @@ import re
 
 from building import symbols_of
 
+PASSED_ON = {"sigaction", "signal"}  # by the host, to the system
 CAME_ONCE = "a failure that was found otherwise didn't come again"
 HARMLESS = set("""
-abort abs atexit atof atoi atol atoll bsearch calloc clock clock_gettime exit fflush fprintf fputc fputs free fwrite getenv
-gettimeofday labs llabs longjmp malloc memccpy memchr memcmp memcpy memmem memmove memrchr memset perror printf putc putchar
+abort abs atexit atof atoi atol atoll bsearch calloc exit fflush fprintf fputc fputs free fwrite getenv
+labs llabs longjmp malloc memccpy memchr memcmp memcpy memmem memmove memrchr memset perror printf putc putchar
 puts qsort rand rand_r realloc setjmp sigsetjmp snprintf sprintf srand sscanf strcasecmp strcat strchr strchrnul strcmp strcpy
 strcspn strdup strerror strlen strncasecmp strncat strncmp strncpy strndup strnlen strpbrk strrchr strsep strspn strstr strtod
 strtok strtok_r strtol strtoll strtoul strtoull time tolower toupper vfprintf vprintf vsnprintf vsprintf wcscat wcschr wcscmp
@@ -33,7 +34,7 @@ def is_harmless(name):
 def note_calls(objects, library, folder):
     """Writes which functions that aren't harmless the program's own objects call."""
     found = [symbols_of(it) for it in objects]
-    known = set(symbols_of(library)[0]).union(*(defined for defined, _ in found))
+    known = (set(symbols_of(library)[0]) - PASSED_ON).union(*(defined for defined, _ in found))
     wanted = set().union(*(wanted for _, wanted in found)) - known
     with open(folder + "/calls", "w", encoding="utf-8") as it:
         it.write(" ".join(sorted(name for name in wanted if not is_harmless(name))))

@@ -10,7 +10,8 @@ import re
 import subprocess
 
 HERE = os.path.dirname(os.path.abspath(__file__))
-FLAGS = ["--coverage", "-fno-early-inlining"]  # else a function that is inlined everywhere has no count
+# Without the second a function that is inlined everywhere has no count; without the third a hook sees each count.
+FLAGS = ["--coverage", "-fno-early-inlining", "-fprofile-update=atomic"]
 LINK_FLAGS = ["--coverage", "-Wl,-u,__gcov_dump"]
 
 
@@ -94,6 +95,13 @@ def functions_told(files):
     """Returns the functions that never ran, with their places."""
     return [f"{it.name} ({file.place(it.line)})" for file in files
             for it in sorted(file.functions.values(), key=lambda it: it.line) if not it.count and it.name != "main"]
+
+
+def tell_lines(compiler, folder, is_counted):
+    """Prints which lines never ran in any order, or that it isn't known."""
+    unknown = f"what never ran isn't known: {compiler} keeps no counts that gcov reads"
+    for line in lines_told(read(compiler, folder)) if is_counted else [unknown]:
+        print(line)
 
 
 def lines_told(files):

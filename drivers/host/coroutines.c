@@ -5,6 +5,7 @@
 enum { STACK = 256 * 1024 };
 static const uintptr_t STACKS = 0x210000000000; /* the same in each run: what lies on a stack counts by its address */
 static char *stacks[MAX_THREADS];
+static uintptr_t main_low, main_high;
 
 /* With a page below it that nobody may touch. */
 static char *stack_of(int n)
@@ -22,6 +23,21 @@ void map_stacks(void)
 {
     for (int n = 1; n < MAX_THREADS; n++)
         stack_of(n);
+}
+
+/* What a run may use of the main thread's stack, from here on: what is above depends on the environment. */
+void note_main_stack(void)
+{
+    enum { ROOM = 1 << 20 };
+    IoGetStackLimits(&main_low, &main_high);
+    main_low = (uintptr_t)__builtin_frame_address(0) - ROOM;
+}
+
+/* The same in each run, however snapshots have cut the mappings. */
+void stack_by_schedule(int n, uintptr_t *low, uintptr_t *high)
+{
+    *low = n ? (uintptr_t)stack_of(n) + PAGE : main_low;
+    *high = n ? (uintptr_t)stack_of(n) + STACK : main_high;
 }
 
 #if defined(__x86_64__)

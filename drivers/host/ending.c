@@ -1,5 +1,6 @@
 /* ending.c: how a run by a schedule ended: its class, its transcript, its outcome by packet, and why it fails. */
 #include "explore.h"
+#include "writing.h"
 #include <fcntl.h>
 #include <unistd.h>
 
@@ -35,25 +36,28 @@ static uint64_t hash_of(const char *text, size_t length)
     return h;
 }
 
-static void write_file(const char *name, const char *ending, const char *text, size_t length)
+/* A transcript that no run had before goes behind the others: a line with its schedule, its own lines, and an empty one. */
+static void keep_transcript(uint64_t hash)
 {
-    char path[600];
-    snprintf(path, sizeof path, "%s/%s%s", getenv("WDM_ORDERS"), name, ending);
-    const int f = open(path, O_WRONLY | O_CREAT | O_TRUNC, 0644);
-    if (f < 0 || write(f, text, length) != (ssize_t)length)
+    const char *path = getenv("WDM_ORDERS");
+    char *text = NULL;
+    size_t length = 0;
+    if (!path || !put_in(&shared->transcripts, hash))
+        return;
+    FILE *all = open_memstream(&text, &length);
+    if (!all) {
+        perror(path);
+        return;
+    }
+    fprintf(all, "%s\n", schedule_text(&followed));
+    write_transcript(all);
+    fputs("\n", all);
+    fclose(all);
+    const int f = open(path, O_WRONLY | O_CREAT | O_APPEND, 0644);
+    if (f < 0 || write(f, text, length) != (ssize_t)length) /* all at once, so that no other process's comes between */
         perror(path);
     close(f);
-}
-
-/* A transcript that no run had before goes to a file, with its schedule beside it. */
-static void keep_transcript(const char *text, size_t length)
-{
-    char name[40];
-    if (!getenv("WDM_ORDERS") || !put_in(&shared->transcripts, normal_hash(text)))
-        return;
-    snprintf(name, sizeof name, "%lu", shared->n_transcripts++);
-    write_file(name, "", text, length);
-    write_file(name, ".schedule", schedule_text(&followed), strlen(schedule_text(&followed)));
+    free(text);
 }
 
 /* Packets by the thread that allocated them, and in which order. */
@@ -92,9 +96,9 @@ static void count_outcome(void)
     for (size_t i = hash % MAX_OUTCOMES, n = 0; n < MAX_OUTCOMES; n++, i = (i + 1) % MAX_OUTCOMES) {
         Outcome *o = &shared->outcomes[i];
         uint64_t none = 0;
-        if (atomic_compare_exchange_strong(&o->hash, &none, hash))
+        if (atomic_compare_exchange_strong(&shared->outcome_hashes[i], &none, hash))
             snprintf(o->text, sizeof o->text, "%.*s", (int)sizeof o->text - 1, text);
-        if (o->hash == hash) {
+        if (shared->outcome_hashes[i] == hash) {
             o->classes++;
             return;
         }
@@ -110,15 +114,15 @@ bool wants_transcript(void)
 }
 
 /* The transcript of a run that isn't as another one. */
-void hand_in(const char *text, size_t length, size_t entries)
+void hand_in(uint64_t hash, size_t entries)
 {
     if (is_exploring && entries < expected_entries())
         is_short = true;
-    if (!is_exploring || (!footprints && !put_in(&shared->classes, normal_hash(text))))
+    if (!is_exploring || (!footprints && !put_in(&shared->classes, hash)))
         return;
     shared->n_classes++;
     count_outcome();
-    keep_transcript(text, length);
+    keep_transcript(hash);
 }
 
 /* Returns why the run fails, or NULL. */

@@ -64,6 +64,7 @@ static void begin_round(int bound)
     empty_set(&shared->states);
     empty_set(&shared->classes);
     empty_shared(shared->outcomes, MAX_OUTCOMES * sizeof *shared->outcomes);
+    memset((void *)shared->outcome_hashes, 0, sizeof shared->outcome_hashes);
     shared->bound = bound;
     shared->order = GOES_ON;
     shared->busy = 1;
@@ -178,7 +179,7 @@ static void tell_places(void)
 static void tell_outcomes(void)
 {
     for (size_t i = 0; i < MAX_OUTCOMES; i++)
-        if (shared->outcomes[i].hash)
+        if (shared->outcome_hashes[i])
             fprintf(report, "outcome %lu %s\n", shared->outcomes[i].classes, shared->outcomes[i].text);
 }
 

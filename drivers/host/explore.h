@@ -23,7 +23,6 @@ typedef struct { /* a place at which a thread was, or could have been, preempted
 } Site;
 
 typedef struct {
-    _Atomic uint64_t hash;
     _Atomic unsigned long classes; /* how many classes of orders lead there */
     char text[OUTCOME_TEXT];
 } Outcome;
@@ -50,14 +49,15 @@ typedef struct {
     _Atomic int busy;          /* processes that run, and don't wait for others */
     unsigned long free_choices, priced_choices; /* of that run */
     _Atomic unsigned long runs, cut, beyond, begun; /* beyond: choices that cost more than the bound; begun: that cost it */
-    _Atomic unsigned long most_decisions, most_points, n_classes, n_transcripts;
+    _Atomic unsigned long most_decisions, most_points, n_classes;
     _Atomic int n_racy;
     int n_active;              /* the first so many racy places are points */
     uint32_t racy[MAX_RACY];
     uint8_t is_point[1 << 16], is_racy[1 << 16];
     uint8_t is_update[1 << 16]; /* in a line that changes what it reads */
     Site sites[MAX_SITES];
-    Outcome *outcomes;         /* MAX_OUTCOMES of them */
+    _Atomic uint64_t outcome_hashes[MAX_OUTCOMES]; /* by these each is found, and they take few pages */
+    Outcome *outcomes;         /* MAX_OUTCOMES of them, each where its hash is */
     _Atomic unsigned long n_failed; /* runs that fail */
     _Atomic unsigned long n_limited; /* that the host didn't make to their end, and why the first of them */
     char limit[200];
@@ -108,12 +108,9 @@ void remember_fault(void);
 const char *schedule_text(const Schedule *s);
 bool read_schedule(const char *text, Schedule *s);
 
-/* normal.c */
-uint64_t normal_hash(const char *text);
-
 /* ending.c: how a run ended, and what is kept of it. */
 bool wants_transcript(void);
-void hand_in(const char *text, size_t length, size_t entries);
+void hand_in(uint64_t transcripts_hash, size_t entries);
 void note_failure(const Schedule *s, int cost, const char *why);
 
 #endif

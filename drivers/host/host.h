@@ -315,7 +315,6 @@ uint64_t number_of(const void *raw);
 uint64_t word_of(const IO_STACK_LOCATION *l);
 void look(Packet *p);
 void record_word(const char *act, int lock, PVOID tag, const char *reply, int by, int to);
-size_t write_transcript(FILE *out);
 extern const char *const op_names[];
 
 /* rules.c: the one place that knows which call is refused. A question there is one that irp_live could be asked. */

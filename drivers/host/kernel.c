@@ -255,6 +255,10 @@ VOID IoGetStackLimits(PULONG_PTR Low, PULONG_PTR High)
 {
     const ULONG_PTR here = (ULONG_PTR)__builtin_frame_address(0);
     unsigned long low, high;
+    if (by_schedule) {
+        stack_by_schedule(current_thread(), Low, High);
+        return;
+    }
     FILE *maps = fopen("/proc/self/maps", "r");
     *Low = here & ~(ULONG_PTR)(PAGE - 1);
     *High = *Low + PAGE;

@@ -314,6 +314,7 @@ void watch_for_the_end(void)
 {
     static const int numbers[] = { SIGBUS, SIGFPE, SIGILL, SIGABRT, SIGTERM, ENDS_STOPPED };
     struct sigaction s = { .sa_sigaction = stopped, .sa_flags = SA_SIGINFO | SA_ONSTACK | (by_snapshots ? SA_NODEFER : 0) };
+    function_name(NULL); /* reads the symbols, which takes memory that a handler may not ask for */
     for (size_t i = 0; i < sizeof numbers / sizeof *numbers; i++)
         sigaction(numbers[i], &s, NULL);
     s.sa_sigaction = place_asked;

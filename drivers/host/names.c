@@ -7,10 +7,11 @@
 #include <fcntl.h>
 #include <unistd.h>
 
-static const Elf64_Sym *symbols;
+typedef struct { uintptr_t from, to, most; uint32_t number; const char *name; } Function; /* most: the last end so far */
+static Function *functions; /* by where they begin */
 static const Elf64_Shdr *sections;
-static size_t n_symbols, n_sections;
-static const char *strings, *section_names;
+static size_t n_functions, n_sections;
+static const char *section_names;
 static uintptr_t base;
 
 static int take_base(struct dl_phdr_info *info, size_t size, void *context)
@@ -18,6 +19,27 @@ static int take_base(struct dl_phdr_info *info, size_t size, void *context)
     (void)size, (void)context;
     base = info->dlpi_addr; /* the first one is the program */
     return 1;
+}
+
+static int by_begin(const void *a, const void *b)
+{
+    const Function *f = a, *g = b;
+    return f->from < g->from ? -1 : f->from > g->from;
+}
+
+static void take_functions(const Elf64_Sym *symbols, size_t n, const char *strings)
+{
+    functions = calloc(n, sizeof *functions);
+    for (size_t i = 0; functions && i < n; i++) {
+        const uintptr_t from = symbols[i].st_value, to = from + (symbols[i].st_size ? symbols[i].st_size : 1);
+        if (ELF64_ST_TYPE(symbols[i].st_info) == STT_FUNC)
+            functions[n_functions++] = (Function){ from, to, 0, (uint32_t)i, strings + symbols[i].st_name };
+    }
+    qsort(functions, n_functions, sizeof *functions, by_begin);
+    for (size_t i = 0; i < n_functions; i++) {
+        const uintptr_t before = i ? functions[i - 1].most : 0;
+        functions[i].most = functions[i].to > before ? functions[i].to : before;
+    }
 }
 
 static void read_symbols(void)
@@ -35,25 +57,37 @@ static void read_symbols(void)
     n_sections = head->e_shnum;
     section_names = all + sections[head->e_shstrndx].sh_offset;
     for (size_t i = 0; i < n_sections; i++)
-        if (sections[i].sh_type == SHT_SYMTAB) {
-            symbols = (const void *)(all + sections[i].sh_offset);
-            n_symbols = sections[i].sh_size / sizeof *symbols;
-            strings = all + sections[sections[i].sh_link].sh_offset;
-        }
+        if (sections[i].sh_type == SHT_SYMTAB)
+            take_functions((const void *)(all + sections[i].sh_offset), sections[i].sh_size / sizeof(Elf64_Sym),
+                           all + sections[sections[i].sh_link].sh_offset);
     dl_iterate_phdr(take_base, NULL);
 }
 
-/* The function that this address is in, or "?" where that can't be told. */
+/* How many functions begin there or before. */
+static size_t begun_by(uintptr_t at)
+{
+    size_t least = 0, most = n_functions;
+    while (least < most) {
+        const size_t middle = (least + most) / 2;
+        if (functions[middle].from <= at)
+            least = middle + 1;
+        else
+            most = middle;
+    }
+    return least;
+}
+
+/* The function that this address is in, or "?" where that can't be told. Of several names it is the first in the file. */
 const char *function_name(const void *address)
 {
     static pthread_once_t once = PTHREAD_ONCE_INIT;
     pthread_once(&once, read_symbols);
-    uintptr_t at = (uintptr_t)address - base;
-    for (size_t i = 0; i < n_symbols; i++)
-        if (ELF64_ST_TYPE(symbols[i].st_info) == STT_FUNC && at >= symbols[i].st_value &&
-            at < symbols[i].st_value + (symbols[i].st_size ? symbols[i].st_size : 1))
-            return strings + symbols[i].st_name;
-    return "?";
+    const uintptr_t at = (uintptr_t)address - base;
+    const Function *first = NULL;
+    for (size_t i = begun_by(at); i > 0 && functions[i - 1].most > at; i--)
+        if (functions[i - 1].to > at && (!first || functions[i - 1].number < first->number))
+            first = &functions[i - 1];
+    return first ? first->name : "?";
 }
 
 bool is_in_program(const void *address) { return *function_name(address) != '?'; }

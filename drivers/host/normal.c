@@ -1,89 +1,96 @@
 /*
- * normal.c: a transcript's hash that doesn't depend on which seats, slots and use numbers it happened to get.
+ * normal.c: a transcript is put into a file; or into a hash that doesn't depend on which seats, slots and use numbers it
+ * happened to get, and for which no text is made.
  *
- * Seats, packets and tags count as what they are in the order in which the text names them first. Steps don't count.
+ * In the hash seats, packets and tags count as what they are in the order in which they come first. Steps don't count. A
+ * format counts by where it stands in the program, and what goes into it by its value.
  */
-#include "explore.h"
+#include "writing.h"
+#include <stdarg.h>
 
 enum { MOST = 1 << 12 };
-typedef struct { uint64_t named[MOST]; int n; } Names;
-static Names seats, packets_named, tags;
+typedef enum { SEATS, PACKETS, TAGS, NAMED } Named;
+static uint64_t named[MOST][NAMED]; /* side by side, since each page that a run writes is put back */
+static int n_named[NAMED];
 
-static int number_in(Names *names, uint64_t name)
+static void add(Text *t, uint64_t n)
+{
+    t->hash = (t->hash ^ n) * 0x9E3779B97F4A7C15u;
+    t->hash ^= t->hash >> 29;
+}
+
+static void add_string(Text *t, const char *s)
+{
+    for (; *s; s++)
+        add(t, (unsigned char)*s);
+    add(t, 0);
+}
+
+static void add_name(Text *t, Named kind, uint64_t name)
 {
     int i = 0;
-    while (i < names->n && names->named[i] != name)
+    while (i < n_named[kind] && named[i][kind] != name)
         i++;
-    if (i == names->n && i < MOST)
-        names->named[names->n++] = name;
-    return i;
+    if (i == n_named[kind] && i < MOST)
+        named[n_named[kind]++][kind] = name;
+    add(t, (uint64_t)i);
 }
 
-static uint64_t add(uint64_t h, uint64_t byte) { return (h ^ byte) * 0x100000001b3u; }
-
-/* Reads a number. Returns what is behind it. */
-static const char *read_number(const char *at, uint64_t *n)
+void begin_hash(Text *t)
 {
-    char *end;
-    *n = strtoull(at, &end, 10);
-    return end;
+    *t = (Text){ .hash = 0xcbf29ce484222325u };
+    memset(n_named, 0, sizeof n_named);
 }
 
-/* A packet is a slot and a use, with a comma between. */
-static const char *read_packet(const char *at, uint64_t *number)
+static void add_values(Text *t, const char *format, va_list values)
 {
-    uint64_t slot, use;
-    at = read_number(at, &slot);
-    at = read_number(at + 1, &use);
-    *number = (uint64_t)number_in(&packets_named, slot << 40 | use);
-    return at;
+    add(t, (uintptr_t)format);
+    for (const char *at = strchr(format, '%'); at; at = strchr(at + 1, '%'))
+        switch (at[1]) {
+        case 's': add_string(t, va_arg(values, const char *)); break;
+        case 'd': add(t, (uint64_t)va_arg(values, int)); break;
+        case 'u': add(t, va_arg(values, unsigned)); break;
+        default: add(t, va_arg(values, unsigned long)); /* %lu and %zu */
+        }
 }
 
-static const char *behind(const char *at, const char *key)
+void put(Text *t, const char *format, ...)
 {
-    while (*key && *at == *key)
-        at++, key++;
-    return *key ? NULL : at;
+    va_list values;
+    va_start(values, format);
+    if (t->out)
+        vfprintf(t->out, format, values);
+    else
+        add_values(t, format, values);
+    va_end(values);
 }
 
-/* Where a name begins: reads it. Returns what is behind it, or NULL. */
-static const char *read_name(const char *at, bool is_word, uint64_t *number)
+void put_seat(Text *t, int seat)
 {
-    const char *name;
-    if ((name = behind(at, "\"irp\":[")))
-        return read_packet(name, number);
-    if ((name = behind(at, "\"shown\":["))) {
-        const uint64_t device = *name == 'n' ? 0 : strtoull(name, NULL, 10) + 1;
-        name = read_packet(name + strcspn(name, ",") + 1, number);
-        *number |= device << 20;
-        return name;
-    }
-    if ((name = behind(at, "\"seat\":")) || (is_word && (name = behind(at, "\"to\":")))) {
-        name = read_number(name, number);
-        *number = (uint64_t)number_in(&seats, *number);
-    } else if ((name = behind(at, "\"tag\":"))) {
-        name = read_number(name, number);
-        *number = (uint64_t)number_in(&tags, *number);
-    } else if ((name = behind(at, "\"step\":"))) {
-        name = read_number(name, number);
-        *number = 0;
-    }
-    return name;
+    if (t->out)
+        fprintf(t->out, "%d", seat);
+    else
+        add_name(t, SEATS, (uint64_t)seat);
 }
 
-/* The hash of a text that ends with a zero. */
-uint64_t normal_hash(const char *text)
+void put_irp(Text *t, unsigned slot, uint64_t use)
 {
-    uint64_t h = 0xcbf29ce484222325u, number;
-    bool is_word = false, begins = true;
-    seats.n = packets_named.n = tags.n = 0;
-    for (const char *at = text; *at;) {
-        if (begins)
-            is_word = behind(at, "{\"do\":") != NULL;
-        begins = *at == '\n';
-        const char *after = *at == '"' ? read_name(at, is_word, &number) : NULL;
-        h = add(h, after ? number + 1000 : (uint64_t)(unsigned char)*at);
-        at = after ? after : at + 1;
-    }
-    return h;
+    if (t->out)
+        fprintf(t->out, "%u,%lu", slot, (unsigned long)use);
+    else
+        add_name(t, PACKETS, (uint64_t)slot << 40 | use);
+}
+
+void put_tag(Text *t, uint64_t tag)
+{
+    if (t->out)
+        fprintf(t->out, "%lu", (unsigned long)tag);
+    else
+        add_name(t, TAGS, tag);
+}
+
+void put_step(Text *t, unsigned step)
+{
+    if (t->out)
+        fprintf(t->out, "%u", step);
 }

@@ -389,6 +389,7 @@ void end_by_schedule(void *result)
 
 void begin_schedule(void)
 {
+    note_main_stack();
     by_schedule = true;
     name_thread(0, "main", NULL);
 }

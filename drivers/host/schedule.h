@@ -34,6 +34,8 @@ void tell_threads(void);
 
 /* coroutines.c */
 void map_stacks(void); /* of all threads that there may be */
+void note_main_stack(void);
+void stack_by_schedule(int thread, uintptr_t *low, uintptr_t *high);
 void make_coroutine(int thread, void (*begin)(void));
 void switch_coroutines(int from, int to);
 

@@ -37,9 +37,10 @@ void close_rare_pages(Pages *eldest);    /* where that is the only snapshot */
 __attribute__((noreturn)) void lose_process(void); /* it can't do what it has to: all is made again by forks (explore.c) */
 
 /* packet_pages.c */
-typedef struct { char *bytes; uint8_t *states; int n, room; } PacketPages;
+typedef struct { char *bytes; uint8_t *states; uint64_t *stamps; int n, room; } PacketPages;
 void begin_packet_pages(void);
 void track_packets(char *arena);
+bool is_packet_page_open(size_t page);
 void packet_page_opens(size_t page);     /* it is open by now */
 void packet_page_closes(size_t page);    /* before it closes */
 bool is_packets_page(const char *address);

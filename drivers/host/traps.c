@@ -12,6 +12,8 @@ static bool is_on;
 
 static void open_page(size_t i)
 {
+    if (is_packet_page_open(i))
+        return;
     mprotect(arena + i * PAGE, PAGE, PROT_READ | PROT_WRITE);
     packet_page_opens(i);
 }

@@ -1,5 +1,5 @@
 /* writing.c: the transcript, as docs/FORMATS.md says of form 2. */
-#include "host.h"
+#include "writing.h"
 
 typedef enum { WATCH, CHANGE, KEEPER, KEEP_ON_ERROR, FREE_RULE } Rule;
 static const char *const rule_names[] = { "watch", "change", "keeper", "keep_on_error", "free" };
@@ -58,248 +58,271 @@ static int routine_of(const Setting *s) { return id_in(ids.routines[rule_of(s)],
 static int dispatch_of(void *fn) { return id_in(ids.dispatches, &ids.n_dispatches, fn); }
 static int cancel_of(PDRIVER_CANCEL fn) { return id_in(ids.cancels, &ids.n_cancels, (void *)fn); }
 
-static void put_party(FILE *o, int by)
+static void put_party(Text *t, int by)
 {
     if (by < 0)
-        fputs("\"o\"", o);
+        put(t, "\"o\"");
     else
-        fprintf(o, "%d", by);
+        put(t, "%d", by);
 }
 
-static void put_setting(FILE *o, const Setting *s)
+static void put_setting(Text *t, const Setting *s)
 {
     if (!s)
-        fputs("null", o);
+        put(t, "null");
     else
-        fprintf(o, "[\"%s\",%d,%lu,\"%s%s%s\"]", rule_names[rule_of(s)], routine_of(s), (unsigned long)s->context,
-                s->flags & SL_INVOKE_ON_SUCCESS ? "s" : "", s->flags & SL_INVOKE_ON_ERROR ? "e" : "",
-                s->flags & SL_INVOKE_ON_CANCEL ? "c" : "");
+        put(t, "[\"%s\",%d,%lu,\"%s%s%s\"]", rule_names[rule_of(s)], routine_of(s), (unsigned long)s->context,
+            s->flags & SL_INVOKE_ON_SUCCESS ? "s" : "", s->flags & SL_INVOKE_ON_ERROR ? "e" : "",
+            s->flags & SL_INVOKE_ON_CANCEL ? "c" : "");
 }
 
-static void put_cancel(FILE *o, PDRIVER_CANCEL c)
+static void put_cancel(Text *t, PDRIVER_CANCEL c)
 {
     if (c)
-        fprintf(o, "%d", cancel_of(c));
+        put(t, "%d", cancel_of(c));
     else
-        fputs("null", o);
+        put(t, "null");
 }
 
-static void put_plan(FILE *o, const Asked *a)
+static void put_plan(Text *t, const Asked *a)
 {
-    fprintf(o, "{\"dispatch\":%d,\"plan\":", dispatch_of(a->fn));
+    put(t, "{\"dispatch\":%d,\"plan\":", dispatch_of(a->fn));
     if (a->plan == FINISH)
-        fprintf(o, "[\"finish\",%u,%lu]", a->new_status, (unsigned long)a->new_information);
+        put(t, "[\"finish\",%u,%lu]", a->new_status, (unsigned long)a->new_information);
     else if (a->plan == SKIPS)
-        fputs("[\"skip\"]", o);
+        put(t, "[\"skip\"]");
     else if (a->plan == HOLD) {
-        fputs("[\"hold\",", o);
-        put_cancel(o, a->cancel);
-        fputs("]", o);
+        put(t, "[\"hold\",");
+        put_cancel(t, a->cancel);
+        put(t, "]");
     } else {
-        fprintf(o, "[\"%s\",", a->plan == FORWARD ? "forward" : "forward_pend");
-        put_setting(o, a->set);
-        fputs("]", o);
+        put(t, "[\"%s\",", a->plan == FORWARD ? "forward" : "forward_pend");
+        put_setting(t, a->set);
+        put(t, "]");
     }
 }
 
-static void put_answer(FILE *o, const Asked *a)
+static void put_answer(Text *t, const Asked *a)
 {
     if (a->kind == ROUTINE) {
-        fprintf(o, "{\"answer\":[\"%s\",%s,", a->plan == KEEP ? "keep" : "continue", yes(a->mark));
+        put(t, "{\"answer\":[\"%s\",%s,", a->plan == KEEP ? "keep" : "continue", yes(a->mark));
         if (a->replaced)
-            fprintf(o, "[%u,%lu]", a->new_status, (unsigned long)a->new_information);
+            put(t, "[%u,%lu]", a->new_status, (unsigned long)a->new_information);
         else
-            fputs("null", o);
-        fprintf(o, "],\"completion\":[\"%s\",%d]", rule_names[rule_of(a->set)], routine_of(a->set));
+            put(t, "null");
+        put(t, "],\"completion\":[\"%s\",%d]", rule_names[rule_of(a->set)], routine_of(a->set));
     } else {
         if (a->plan == FINISH)
-            fprintf(o, "{\"answer\":[\"finish\",%lu],\"cancel\":", (unsigned long)a->new_information);
+            put(t, "{\"answer\":[\"finish\",%lu],\"cancel\":", (unsigned long)a->new_information);
         else
-            fputs("{\"answer\":[\"leave\"],\"cancel\":", o);
-        put_cancel(o, a->cancel);
+            put(t, "{\"answer\":[\"leave\"],\"cancel\":");
+        put_cancel(t, a->cancel);
     }
 }
 
-static void put_asked(FILE *o, const Entry *e, const Asked *a)
+static void put_asked(Text *t, const Entry *e, const Asked *a)
 {
     if (a->kind == DISPATCH)
-        put_plan(o, a);
+        put_plan(t, a);
     else
-        put_answer(o, a);
-    fputs(",\"shown\":[", o);
+        put_answer(t, a);
+    put(t, ",\"shown\":[");
     if (a->device < 0)
-        fputs("null", o);
+        put(t, "null");
     else
-        fprintf(o, "%d", a->device);
-    fprintf(o, ",%u,%lu,%d,%d,%lu,%u,%lu,%s,%s,%lu,%s]}", e->slot, (unsigned long)e->use, a->major, a->location,
-            (unsigned long)a->word, a->status, (unsigned long)a->information, yes(a->returned), yes(e->cancel),
-            (unsigned long)a->context, yes(a->has_lower));
+        put(t, "%d", a->device);
+    put(t, ",");
+    put_irp(t, e->slot, e->use);
+    put(t, ",%d,%d,%lu,%u,%lu,%s,%s,%lu,%s]}", a->major, a->location, (unsigned long)a->word, a->status,
+        (unsigned long)a->information, yes(a->returned), yes(e->cancel), (unsigned long)a->context, yes(a->has_lower));
 }
 
 /* A call's keys stand in byte order. */
-static void put_call(FILE *o, const Entry *e)
+static void put_call(Text *t, const Entry *e)
 {
     if (e->op >= SET_NEXT && e->op <= SET_CANCEL) {
-        fputs("\"by\":", o);
-        put_party(o, e->by);
-        fputs(",", o);
+        put(t, "\"by\":");
+        put_party(t, e->by);
+        put(t, ",");
     }
     if (e->op == SET_CANCEL) {
-        fputs("\"cancel\":", o);
-        put_cancel(o, e->routine);
-        fputs(",", o);
+        put(t, "\"cancel\":");
+        put_cancel(t, e->routine);
+        put(t, ",");
     }
     if (e->op == ATTACH || e->op == REMOVE)
-        fprintf(o, "\"device\":%d,", e->device);
-    fprintf(o, "\"do\":\"%s\"", op_names[e->op]);
+        put(t, "\"device\":%d,", e->device);
+    put(t, "\"do\":\"%s\"", op_names[e->op]);
     if (e->op == CREATE)
-        fprintf(o, ",\"driver\":%d,\"lock\":%d", e->device, (int)e->answer);
+        put(t, ",\"driver\":%d,\"lock\":%d", e->device, (int)e->answer);
     if (e->op == REMOVE)
-        fprintf(o, ",\"drained\":%s,\"lock\":%d", yes(e->drained), e->device);
+        put(t, ",\"drained\":%s,\"lock\":%d", yes(e->drained), e->device);
     if (e->op == COMPLETE)
-        fprintf(o, ",\"information\":%lu", (unsigned long)e->information);
+        put(t, ",\"information\":%lu", (unsigned long)e->information);
     if (e->op == DETACH)
-        fprintf(o, ",\"lower\":%d", e->device);
+        put(t, ",\"lower\":%d", e->device);
     if (e->op == ALLOCATE)
-        fprintf(o, ",\"size\":%u", e->status);
-    else if (e->op > ALLOCATE)
-        fprintf(o, ",\"irp\":[%u,%lu]", e->slot, (unsigned long)e->use);
+        put(t, ",\"size\":%u", e->status);
+    else if (e->op > ALLOCATE) {
+        put(t, ",\"irp\":[");
+        put_irp(t, e->slot, e->use);
+        put(t, "]");
+    }
     if (e->op == SET_NEXT)
-        fprintf(o, ",\"major\":%d,\"word\":%lu", e->major, (unsigned long)e->word);
+        put(t, ",\"major\":%d,\"word\":%lu", e->major, (unsigned long)e->word);
     if (e->op == SET_ROUTINE) {
-        fputs(",\"set\":", o);
-        put_setting(o, e->set);
+        put(t, ",\"set\":");
+        put_setting(t, e->set);
     }
     if (e->op == REUSE || e->op == COMPLETE)
-        fprintf(o, ",\"status\":%u", e->status);
+        put(t, ",\"status\":%u", e->status);
     if (e->op == CALL)
-        fprintf(o, ",\"target\":%d", e->other);
+        put(t, ",\"target\":%d", e->other);
     if (e->op == ATTACH)
-        fprintf(o, ",\"to\":%d", e->other);
+        put(t, ",\"to\":%d", e->other);
 }
 
-static void put_seen(FILE *o, const Entry *e)
+static void put_seen(Text *t, const Entry *e)
 {
-    fputs("{\"seen\":[", o);
+    put(t, "{\"seen\":[");
     if (e->seen.owner == ENDED)
-        fputs("\"ended\"", o);
+        put(t, "\"ended\"");
     else
-        put_party(o, e->seen.owner);
-    fprintf(o, ",%d,%u,%lu,%s,", e->seen.current, e->seen.status, (unsigned long)e->seen.information,
-            yes(e->seen.cancel));
-    put_cancel(o, e->seen.routine);
-    fprintf(o, ",%s,%s]}", yes(e->seen.returned), yes(e->seen.marked));
+        put_party(t, e->seen.owner);
+    put(t, ",%d,%u,%lu,%s,", e->seen.current, e->seen.status, (unsigned long)e->seen.information, yes(e->seen.cancel));
+    put_cancel(t, e->seen.routine);
+    put(t, ",%s,%s]}", yes(e->seen.returned), yes(e->seen.marked));
 }
 
-static void put_reply(FILE *o, const Entry *e)
+static void put_reply(Text *t, const Entry *e)
 {
     switch (e->reply) {
-    case DEVICE: fprintf(o, "{\"device\":%lu}", (unsigned long)e->answer); break;
+    case DEVICE: put(t, "{\"device\":%lu}", (unsigned long)e->answer); break;
     case IRP_REF:
-        fprintf(o, "{\"irp\":[%u,%lu]}", e->slot, (unsigned long)(e->op == REUSE ? e->word : e->use));
+        put(t, "{\"irp\":[");
+        put_irp(t, e->slot, e->op == REUSE ? e->word : e->use);
+        put(t, "]}");
         break;
-    case STATUS: fprintf(o, "{\"status\":%lu}", (unsigned long)e->answer); break;
+    case STATUS: put(t, "{\"status\":%lu}", (unsigned long)e->answer); break;
     case PREVIOUS:
-        fputs("{\"previous\":", o);
-        put_cancel(o, e->seen.routine);
-        fputs("}", o);
+        put(t, "{\"previous\":");
+        put_cancel(t, e->seen.routine);
+        put(t, "}");
         break;
-    case CANCELLED: fprintf(o, "{\"cancelled\":%s}", yes(e->answer)); break;
-    case REFUSED: fprintf(o, "{\"refused\":\"%s\"}", e->refused); break;
-    case SEEN: put_seen(o, e); break;
-    default: fputs("\"done\"", o);
+    case CANCELLED: put(t, "{\"cancelled\":%s}", yes(e->answer)); break;
+    case REFUSED: put(t, "{\"refused\":\"%s\"}", e->refused); break;
+    case SEEN: put_seen(t, e); break;
+    default: put(t, "\"done\"");
     }
 }
 
-static void put_entry(FILE *o, const Entry *e)
+static void put_entry(Text *t, const Entry *e)
 {
-    fputs("{\"asked\":[", o);
+    put(t, "{\"asked\":[");
     for (int i = 0; i < e->n; i++) {
-        fputs(i ? "," : "", o);
-        put_asked(o, e, &e->asked[i]);
+        if (i)
+            put(t, ",");
+        put_asked(t, e, &e->asked[i]);
     }
-    fputs("],\"call\":{", o);
-    put_call(o, e);
-    fprintf(o, "},\"n\":%zu,\"reply\":", e->number);
-    put_reply(o, e);
-    fprintf(o, ",\"seat\":%d}\n", e->seat);
+    put(t, "],\"call\":{");
+    put_call(t, e);
+    put(t, "},\"n\":%zu,\"reply\":", e->number);
+    put_reply(t, e);
+    put(t, ",\"seat\":");
+    put_seat(t, e->seat);
+    put(t, "}\n");
 }
 
 /* Behind the entries, by seat. A hand names who gives and, as `to`, who takes. */
-static void put_words(FILE *o)
+static void put_words(Text *t)
 {
     for (int s = 0; s < n_seats; s++)
         for (size_t i = 0; i < n_words; i++) {
             const Word *w = &words[i];
             if (w->seat != s)
                 continue;
-            fprintf(o, "{\"do\":\"%s\",\"lock\":%d,\"reply\":%s,\"seat\":%d,\"step\":%u", w->act, w->lock, w->reply,
-                    w->seat, w->step);
-            if (strcmp(w->act, "drained"))
-                fprintf(o, ",\"tag\":%lu", (unsigned long)w->tag);
-            if (w->to >= 0)
-                fprintf(o, ",\"to\":%d", w->to);
-            fputs("}\n", o);
+            put(t, "{\"do\":\"%s\",\"lock\":%d,\"reply\":%s,\"seat\":", w->act, w->lock, w->reply);
+            put_seat(t, w->seat);
+            put(t, ",\"step\":");
+            put_step(t, w->step);
+            if (strcmp(w->act, "drained")) {
+                put(t, ",\"tag\":");
+                put_tag(t, w->tag);
+            }
+            if (w->to >= 0) {
+                put(t, ",\"to\":");
+                put_seat(t, w->to);
+            }
+            put(t, "}\n");
         }
 }
 
-static void put_driver(FILE *o, const DRIVER_OBJECT *d)
+static void put_driver(Text *t, const DRIVER_OBJECT *d)
 {
     bool first = true;
-    fputs("[", o);
+    put(t, "[");
     for (int m = 0; m <= IRP_MJ_MAXIMUM_FUNCTION; m++)
         if (d->MajorFunction[m]) {
-            fprintf(o, "%s[%d,%d]", first ? "" : ",", m, dispatch_of((void *)d->MajorFunction[m]));
+            put(t, "%s[%d,%d]", first ? "" : ",", m, dispatch_of((void *)d->MajorFunction[m]));
             first = false;
         }
-    fputs("]", o);
+    put(t, "]");
 }
 
-static void put_header(FILE *o)
+/* Once each id has its number. */
+static void put_header(Text *t)
 {
     const int *r = ids.n_routines;
-    char *tables = NULL;
-    size_t length = 0;
-    FILE *t = open_memstream(&tables, &length);
-    if (!t)
-        give_up("out of memory");
+    put(t, "{\"cancels\":[");
+    for (int i = 0; i < ids.n_cancels; i++)
+        put(t, "%s\"%s\"", i ? "," : "", finishes[i] == leaves[i] ? "either" : finishes[i] ? "must_finish" : "must_leave");
+    put(t, "],\"completions\":[%d,%d,%d,%d,%d],\"dispatches\":[", r[0], r[1], r[2], r[3], r[4]);
+    for (int i = 0; i < ids.n_dispatches; i++)
+        put(t, "%s[%d,%d,%d,%d,%d,%d]", i ? "," : "", r[0], r[1], r[2], r[3], r[4], ids.n_cancels);
+    put(t, "],\"drivers\":[");
     for (int d = 0; d < n_drivers; d++) {
-        fputs(d ? "," : "", t);
+        if (d)
+            put(t, ",");
         put_driver(t, drivers[d]);
     }
-    fclose(t);
-    fputs("{\"cancels\":[", o);
-    for (int i = 0; i < ids.n_cancels; i++)
-        fprintf(o, "%s\"%s\"", i ? "," : "",
-                finishes[i] == leaves[i] ? "either" : finishes[i] ? "must_finish" : "must_leave");
-    fprintf(o, "],\"completions\":[%d,%d,%d,%d,%d],\"dispatches\":[", r[0], r[1], r[2], r[3], r[4]);
-    for (int i = 0; i < ids.n_dispatches; i++)
-        fprintf(o, "%s[%d,%d,%d,%d,%d,%d]", i ? "," : "", r[0], r[1], r[2], r[3], r[4], ids.n_cancels);
-    fprintf(o, "],\"drivers\":[%s],\"form\":2,\"locks\":%d,\"seats\":%d,\"slots\":0}\n", tables,
-            n_devices ? n_devices : 1, n_seats ? n_seats : 1);
-    free(tables);
+    put(t, "],\"form\":2,\"locks\":%d,\"seats\":%d,\"slots\":0}\n", n_devices ? n_devices : 1, n_seats ? n_seats : 1);
 }
 
-/* Writes the history up to the first send that hasn't returned: a reply is never made up. Returns how many entries. */
-size_t write_transcript(FILE *out)
+/* The history up to the first send that hasn't returned: a reply is never made up. Returns how many entries. */
+static size_t put_history(Text *t)
 {
-    char *text = NULL;
-    size_t length = 0, n = 0;
-    FILE *body = open_memstream(&text, &length);
-    if (!body)
-        give_up("out of memory");
+    size_t n = 0;
+    while (n < n_history && history[n]->reply != NONE_YET)
+        put_entry(t, history[n++]);
+    put_words(t);
+    return n;
+}
+
+static void learn_answers(void)
+{
     for (size_t i = 0; i < n_history; i++)
         for (int k = 0; k < history[i]->n; k++) {
             const Asked *a = &history[i]->asked[k];
             if (a->kind == CANCELLING)
                 (a->plan == FINISH ? finishes : leaves)[cancel_of(a->cancel)] = true;
         }
-    while (n < n_history && history[n]->reply != NONE_YET)
-        put_entry(body, history[n++]);
-    put_words(body);
-    fclose(body);
-    put_header(out);
-    fwrite(text, 1, length, out);
-    free(text);
-    return n;
+}
+
+/* Gives each id its number, in the order of the history. Returns the transcript's hash, and how many entries it has. */
+uint64_t hash_transcript(size_t *n)
+{
+    Text t = { 0 };
+    begin_hash(&t);
+    learn_answers();
+    *n = put_history(&t);
+    put_header(&t);
+    return t.hash;
+}
+
+/* Once it has its hash. */
+void write_transcript(FILE *out)
+{
+    Text t = { .out = out };
+    put_header(&t);
+    put_history(&t);
 }
