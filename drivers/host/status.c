@@ -4,12 +4,13 @@
 
 enum { NEVER_SET = 0x4dcdcdcd }; /* of a status of success */
 
-/* It is sent, and no driver has had it. The recorder, where it is linked, writes down statuses as they stand. Under G, as is
-   all here. */
+/* It is sent, and no driver has had it. A driver that built it may look at its status while another holds it. The recorder,
+   where it is linked, writes down statuses as they stand. Under G, as is all here. */
 void expect_status(Packet *p)
 {
     extern VOID IrpxForget(VOID) __attribute__((weak));
-    if (IrpxForget || !p->is_built || p->asking || p->current != p->size + 1 || p->irp->IoStatus.Status != STATUS_SUCCESS)
+    const bool is_programs = p->is_built && p->allocator == NOBODY;
+    if (IrpxForget || !is_programs || p->asking || p->current != p->size + 1 || p->irp->IoStatus.Status != STATUS_SUCCESS)
         return;
     const UCHAR major = raw_at(p, p->current - 1)->MajorFunction;
     if (major != IRP_MJ_PNP && major != IRP_MJ_POWER && major != IRP_MJ_SYSTEM_CONTROL)
