@@ -212,8 +212,12 @@ HINTS_OF = {
               "you write, and set Information to what you wrote.")],
 }
 HINTS_OF[9] = HINTS_OF[6]
-HINTS_OF[15] = [Hint(r"^line \d+, column \d+: ", "This line is no step that can be made. Which names have the lines above it given?",
-                     "docs/WORDS.md", "Let a step name only what stands above it, on the same seat.")]
+HINTS_OF[15] = [
+    Hint(r"^line \d+, column \d+: .* expected .*(a line above gives|a step above)", "This line is no step that can be made. Which "
+         "names have the lines above it given?", "docs/WORDS.md", "Let a step name only what stands above it, on the same seat."),
+    Hint(r"^line \d+, column \d+: ", "Your line can't be read from that place on. Which line of the file is like it, and what "
+         "stands there in that one?", "docs/WRITING.md", "Take a line with finish_taken over whole, and change its condition alone."),
+]
 
 
 def hint_of(number, said):

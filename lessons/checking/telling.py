@@ -38,10 +38,19 @@ def without_remedy(line):
     return line
 
 
+def kind_of(line):
+    """Returns a line without its numbers, but for those of lines: two packets may have the same fault at one place."""
+    return re.sub(r"(?<!\.c:)\b\d+(\.\d+)*\b", "", line)
+
+
 def told(said, most=MOST_LINES):
     """Returns what is shown of a run's output: its first faults and the order that was taken."""
     lines = [it for it in said.splitlines() if not it.startswith(("transcript ", "read it ", "why  "))]
-    kept = list(dict.fromkeys(it for it in lines if re.search("FAULT|STOPPED", it) and " at the same place" not in it))
+    found = {}
+    for it in lines:
+        if re.search("FAULT|STOPPED", it) and " at the same place" not in it:
+            found.setdefault(kind_of(it), it)
+    kept = list(found.values())
     order = [it for it in lines if it.startswith(("schedule:", "again with"))]
     again = {m[1]: m[2] for m in re.finditer(r"FAULT (\w+) (\d+) times at the same place", said)}
     shown = [named(without_remedy(it)) for it in kept[:most]] or lines[-most:]

@@ -1,6 +1,7 @@
 """Runs what a lesson shows, and takes the page of one packet's way apart: a moment for each entry."""
 
 import collections
+import html
 import json
 import os
 import re
@@ -89,7 +90,7 @@ def of_driver(number):
         if not os.path.exists(path):
             return Shown(said, "", [], "")
         packet = packet_of(of_run, path)
-        return by_page(said, f"IRP {packet}" if packet else "The history", page_of(path, packet))
+        return by_page(said, f"IRP {packet}" if packet else "The history", page_of(path, packet), of_run)
 
 
 def of_history(number):
@@ -111,7 +112,26 @@ def of(number):
     return own.get(number, of_driver)(number)
 
 
-def by_page(said, name, page):
-    """Returns what is told, with the moments of a page, in order."""
+def note_of(fault):
+    """Returns what a moment says of a fault that the host told behind it."""
+    text = re.sub(r"^\w+: | \[before entry \d+\]", "", telling.named(telling.without_remedy(fault)))
+    # A history has no dispatch that pends without a mark.
+    more = ". The picture has a mark all the same, as each history has behind STATUS_PENDING." if "marked nothing" in text else ""
+    return f'<p class="fault">Then the host tells: {html.escape(text + more)}</p>'
+
+
+def noted(moments, run):
+    """Returns moments, with the first fault that a run told behind one of them."""
+    for fault in re.findall(r"(?m)^.*FAULT .*\[before entry \d+\].*$", run):
+        before = int(re.search(r"\[before entry (\d+)\]", fault)[1])
+        at = sum(it.number < before for it in moments) - 1
+        if at >= 0:
+            noted_one = moments[at]._replace(picture=moments[at].picture + note_of(fault))
+            return [*moments[:at], noted_one, *moments[at + 1:]]
+    return moments
+
+
+def by_page(said, name, page, run=""):
+    """Returns what is told, with the moments of a page, in order, and what a run told behind one of them."""
     found = [moment_of(*it) for it in ENTRY.findall(page.partition('<ol class="entries">')[2])]
-    return Shown(said, name, found, style_of(page))
+    return Shown(said, name, noted(found, run), style_of(page))

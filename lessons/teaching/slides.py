@@ -34,6 +34,7 @@ body { max-width: none; margin: 0; padding: 0; font-size: 1rem; }
 .moment p, .moment .steps { font-size: .85rem; margin: .2rem 0; }
 .moment { transform-origin: top left; }
 .moment a { color: inherit; }
+.moment .fault { color: var(--bad); font-weight: 600; overflow-wrap: anywhere; }
 @page { size: 1024px 768px; margin: 0; }
 @media print { html { font-size: 21px; } .slide { height: 768px; break-after: page; break-inside: avoid; } }
 """
