@@ -1,6 +1,7 @@
 -- The script that lines say, and what is told of it.
 use Rattle.std.specs.Prelude.{◌≡◌, ◌==◌, ℕ, Bool, true, false, List, [], ◌∷◌, ◌++◌, map, take, Option, Some, None, is_some, Ok, Err}
 use Rattle.std.specs.Prelude.{if◌then◌else◌, string_bytes}
+use Rattle.std.specs.Borrow.{Bor}
 use Rattle.std.specs.List.{list_any}
 use Rattle.std.specs.Option.{unwrap_or}
 use Rattle.irp_types.specs.declared.answer.Plan.{Plan}
@@ -145,6 +146,10 @@ plan_line plan.Skip = record { kind = kind.Skip; values = none }
 plan_line (plan.Forward set) = record { kind = kind.Forward; values = six (set_value set ∷ []) }
 plan_line (plan.ForwardPend set) = record { kind = kind.ForwardPend; values = six (set_value set ∷ []) }
 
+-- the texts of the labels that lines name, in the order in which they first name them
+abbrev pub labels_of : Said → List (List ℕ)
+labels_of said = map (λ (label : Bor (List ℕ)). label.now) said.names.labels.items
+
 -- the script is what the lines say, member by member in order; one seat and one lock where they say nothing of them
 pub record Says (said : Said) (script : ScriptParts) : Type 0 where
   pub form : script.form ≡ form_of said.form said.slots (have_conditions said.steps.items)
@@ -156,6 +161,7 @@ pub record Says (said : Said) (script : ScriptParts) : Type 0 where
   pub drivers : script.drivers ≡ said.drivers.items
   pub setup : said.setup.items ≡ map line_of script.setup
   pub steps : said.steps.items ≡ map line_of script.steps
+  pub labels : script.labels ≡ labels_of said
 
 -- the JSON is read as this script, which is what the lines say; and they have no fault
 pub record TellsScript (said : Said) (told : Told) : Type 0 where

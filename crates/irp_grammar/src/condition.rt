@@ -1,6 +1,9 @@
 //! What a step hangs on, as its line says it and as JSON has it. Source: this project's own format (docs/WORDS.md,
 //! docs/FORMATS.md).
 
+ghost use Rattle.std.specs.Prelude.{OnSome};
+ghost use Rattle.irp_grammar.specs.Lines.{IsFurther, ahead};
+
 use crate::cursor::Cursor;
 use crate::said::Said;
 use crate::wanted::Wanted;
@@ -69,7 +72,9 @@ pub fn answer_word(answer: ExpectedAnswer) -> &'static str {
 
 impl<'a> Said<'a> {
     /// The cancel routine that the next word is, behind `routine`, or whichever: what may begin a step begins that.
-    fn take_routine_or_any(&self, words: &mut Cursor<'_, '_>) -> ExpectedAnswer {
+    fn take_routine_or_any(&self, words: &mut Cursor<'_, '_>) -> ExpectedAnswer
+        ensures { IsFurther (ahead words.old) (ahead words.new) }
+    {
         let text = words.text();
         if ActKind::named(text).is_some() || text == "stack" {
             return ExpectedAnswer::AnyRoutine;
@@ -84,7 +89,10 @@ impl<'a> Said<'a> {
     }
 
     /// The answer that the next words are.
-    fn take_expected(&self, words: &mut Cursor<'_, '_>) -> Option<ExpectedAnswer> {
+    #[tactic(auto, using(crate::proofs::Further::further_both))]
+    fn take_expected(&self, words: &mut Cursor<'_, '_>) -> Option<ExpectedAnswer>
+        ensures { OnSome result (IsFurther (ahead words.old) (ahead words.new)) }
+    {
         if words.takes("routine") {
             return Some(self.take_routine_or_any(words));
         }
@@ -98,22 +106,43 @@ impl<'a> Said<'a> {
         }
     }
 
-    /// What a step hangs on, where the next words say that it hangs on anything.
-    pub fn take_condition(&self, words: &mut Cursor<'_, '_>) -> Option<Option<Condition>> {
-        if !words.takes("if") {
-            return Some(None);
-        }
-        let step = self.short(Part::Step, words)?;
+    /// What an answer is expected to be or not to be, behind the step on which another hangs.
+    #[tactic(auto, using(crate::proofs::Further::further_both))]
+    fn take_test(&self, step: u32, words: &mut Cursor<'_, '_>) -> Option<Condition>
+        ensures { OnSome result (IsFurther (ahead words.old) (ahead words.new)) }
+    {
         if !words.takes("is") {
             return words.fails(Wanted::Is);
         }
         let wanted = !words.takes("not");
         let answer = self.take_expected(words)?;
-        Some(Some(Condition {
+        Some(Condition {
             step,
             wanted,
             answer,
-        }))
+        })
+    }
+
+    /// What a step hangs on, behind `if`.
+    #[tactic(auto, using(crate::proofs::Further::further_both))]
+    fn take_hanging(&self, words: &mut Cursor<'_, '_>) -> Option<Condition>
+        ensures { OnSome result (IsFurther (ahead words.old) (ahead words.new)) }
+    {
+        let step = self.short(Part::Step, words)?;
+        self.take_test(step, words)
+    }
+
+    /// What a step hangs on, where the next words say that it hangs on anything.
+    #[tactic(auto, using(crate::proofs::Further::further_both))]
+    pub fn take_condition(&self, words: &mut Cursor<'_, '_>) -> Option<Option<Condition>>
+        ensures { OnSome result (IsFurther (ahead words.old) (ahead words.new)) }
+    {
+        if words.takes("if") {
+            let condition = self.take_hanging(words)?;
+            Some(Some(condition))
+        } else {
+            Some(None)
+        }
     }
 }
 

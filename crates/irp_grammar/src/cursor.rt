@@ -1,7 +1,8 @@
 //! The words of a line, taken one after the other, and what is wrong with one.
 
-ghost use Rattle.std.specs.Prelude.{◌≡◌, IfOk, None, string_bytes};
+ghost use Rattle.std.specs.Prelude.{◌≡◌, IfOk, IfSome, MatchBool, None, OnSome, Some, drop, length, option_map, string_bytes};
 ghost use Rattle.irp_names.specs.Sinks.{Says};
+ghost use Rattle.irp_grammar.specs.Lines.{IsFurther, ahead, first_of, next_of, texts};
 ghost use Rattle.irp_grammar.specs.Faults.{AreFaultLines, IsFaultLine, SaysOne, hint_said, place_said, word_said};
 
 use crate::wanted::Wanted;
@@ -107,15 +108,14 @@ pub fn fault_lines(alloc: Global, faults: &[WordsFault<'_>]) -> Result<String, A
     text.finish()
 }
 
-/// The words of a line, how many of them were taken, and what is wrong with the line.
+/// The words of a line that are left, and what is wrong with the line.
 ///
 /// What takes words gives None where the line isn't taken: then the cursor keeps the line's fault, or none where memory
 /// ran out.
 #[derive(Clone, Copy)]
 pub struct Cursor<'a, 'b> {
+    /// The words that are left.
     words: &'b [Word<'a>],
-    /// How many of them were taken.
-    at: usize,
     line: usize,
     end: usize,
     fault: Option<WordsFault<'a>>,
@@ -123,10 +123,11 @@ pub struct Cursor<'a, 'b> {
 
 impl<'a, 'b> Cursor<'a, 'b> {
     /// The words of this line, which ends at this column.
-    pub fn new(words: &'b [Word<'a>], line: usize, end: usize) -> Cursor<'a, 'b> {
+    pub fn new(words: &'b [Word<'a>], line: usize, end: usize) -> Cursor<'a, 'b>
+        ensures { ahead result ≡ texts words.now }
+    {
         Cursor {
             words,
-            at: 0,
             line,
             end,
             fault: None,
@@ -139,13 +140,15 @@ impl<'a, 'b> Cursor<'a, 'b> {
     }
 
     /// How many words are left.
-    pub fn left(&self) -> usize {
-        self.words.len().saturating_sub(self.at)
+    pub fn left(&self) -> usize
+        ensures { result ≡ length (ahead self.now) }
+    {
+        self.words.len()
     }
 
     /// The column of the next word, or of the line's end.
     pub fn column(&self) -> usize {
-        match self.words.get(self.at) {
+        match self.words.first() {
             Some(word) => word.column,
             None => self.end,
         }
@@ -157,7 +160,9 @@ impl<'a, 'b> Cursor<'a, 'b> {
     }
 
     /// None: the next word, or the line's end, isn't what was wanted.
-    pub fn fails<T>(&mut self, wanted: Wanted) -> Option<T> {
+    pub fn fails<T>(&mut self, wanted: Wanted) -> Option<T>
+        ensures { result ≡ None }
+    {
         self.fault = Some(WordsFault {
             line: self.line,
             column: self.column(),
@@ -169,37 +174,54 @@ impl<'a, 'b> Cursor<'a, 'b> {
     }
 
     /// The next word, which is left there.
-    pub fn peek(&self) -> Option<&'a str> {
-        match self.words.get(self.at) {
+    pub fn peek(&self) -> Option<&'a str>
+        ensures { option_map (λ text. text.now) result ≡ first_of (ahead self.now) }
+    {
+        match self.words.first() {
             Some(word) => Some(word.text),
             None => None,
         }
     }
 
     /// Passes over the next word.
-    pub fn pass(&mut self) {
-        self.at = self.at.saturating_add(1);
+    pub fn pass(&mut self)
+        ensures { ahead self.new ≡ drop 1 (ahead self.old) }
+    {
+        if !self.words.is_empty() {
+            self.words = &self.words[1..];
+        }
     }
 
     /// The next word, which is left there; an empty text where the line ends.
-    pub fn text(&self) -> &'a str {
-        match self.words.get(self.at) {
-            Some(word) => word.text,
+    pub fn text(&self) -> &'a str
+        ensures { result.now ≡ next_of (ahead self.now) }
+    {
+        match self.peek() {
+            Some(text) => text,
             None => "",
         }
     }
 
     /// Whether the next word is this one, which is then taken.
-    pub fn takes(&mut self, text: &str) -> bool {
-        let there = self.text() == text;
-        if there {
+    pub fn takes(&mut self, text: &str) -> bool
+        ensures further { IsFurther (ahead self.old) (ahead self.new) }
+        ensures taken { MatchBool result
+            ((next_of (ahead self.old) ≡ text.now) × (ahead self.new ≡ drop 1 (ahead self.old)))
+            (ahead self.new ≡ ahead self.old) }
+    {
+        if self.text() == text {
             self.pass();
+            true
+        } else {
+            false
         }
-        there
     }
 
     /// What the next word was read as, and passes over it; where it was read as nothing, it isn't what was wanted.
-    pub fn taken<T>(&mut self, read: Option<T>, wanted: Wanted) -> Option<T> {
+    pub fn taken<T>(&mut self, read: Option<T>, wanted: Wanted) -> Option<T>
+        ensures read { IfSome result (λ value. read ≡ Some value) }
+        ensures passed { OnSome result (ahead self.new ≡ drop 1 (ahead self.old)) }
+    {
         match read {
             Some(value) => {
                 self.pass();
@@ -210,7 +232,9 @@ impl<'a, 'b> Cursor<'a, 'b> {
     }
 
     /// Nothing, where no word is left.
-    pub fn ended(&mut self) -> Option<()> {
+    pub fn ended(&mut self) -> Option<()>
+        ensures { OnSome result (length (ahead self.old) ≡ 0) }
+    {
         if self.left() == 0 {
             Some(())
         } else {

@@ -2,6 +2,7 @@
 
 ghost use Rattle.std.specs.Prelude.{[], ◌≢◌, IfErr, IfOk, Ok, string_bytes};
 ghost use Rattle.irp_script_reader.specs.Scripts.{ReadsScript};
+ghost use Rattle.irp_grammar.specs.Reading.{IsSaidIn};
 ghost use Rattle.irp_grammar.specs.Saying.{GivesFaults, Says, TellsScript};
 
 use crate::cursor::WordsFault;
@@ -98,7 +99,8 @@ pub fn json<'a>(alloc: Global, said: &Said<'a>) -> Result<Told, Untold<'a>>
 ///
 /// As `read_lines` and `json` have them.
 pub fn json_of<'a>(alloc: Global, text: &'a [u8]) -> Result<Told, Untold<'a>>
-    ensures { IfOk result (λ told. ReadsScript (Ok told.script) (string_bytes told.text)) }
+    ensures read { IfOk result (λ told. ReadsScript (Ok told.script) (string_bytes told.text)) }
+    ensures said { IfOk result (λ told. IsSaidIn text.now told.script) }
 {
     let said = read_lines(alloc, text)?;
     json(alloc, &said)

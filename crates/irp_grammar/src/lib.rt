@@ -4,6 +4,7 @@
 mod condition;
 mod cursor;
 mod law;
+mod lines;
 mod members;
 mod names;
 mod near;

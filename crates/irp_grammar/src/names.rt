@@ -1,5 +1,8 @@
 //! The names that a text gives, each for a number from its line on.
 
+ghost use Rattle.std.specs.Prelude.{◌≡◌, IfSome, true};
+ghost use Rattle.irp_grammar.specs.Numbers as spec;
+
 use crate::numbers::{begins_with_digit, number_in};
 use irp_forms::Part;
 use irp_names::{major_named, minor_named, status_named};
@@ -40,7 +43,9 @@ fn device_in(text: &str) -> Option<u64> {
 }
 
 /// The number that a word is, where it isn't above this.
-pub fn number_up_to(most: u64, text: &str) -> Option<u64> {
+pub fn number_up_to(most: u64, text: &str) -> Option<u64>
+    ensures { IfSome result (λ number. number ≡ spec.number_in text.now) }
+{
     match number_in(text) {
         Some(number) if number <= most => Some(number),
         _ => None,
@@ -101,7 +106,9 @@ impl<'a> Names<'a> {
     }
 
     /// The labels, in the order in which the text first has them.
-    pub fn labels(&self) -> &[&'a str] {
+    pub fn labels(&self) -> &[&'a str]
+        ensures { result.now ≡ self.now.labels.items }
+    {
         self.labels.as_slice()
     }
 
@@ -121,7 +128,10 @@ impl<'a> Names<'a> {
     }
 
     /// The number of such a part that a word is, by its digits or by a name; of a device also as D2.
-    pub fn number(&self, part: Part, text: &str) -> Option<u64> {
+    pub fn number(&self, part: Part, text: &str) -> Option<u64>
+        ensures { spec.begins_with_digit text.now ≡ true
+            → IfSome result (λ number. number ≡ spec.number_in text.now) }
+    {
         if begins_with_digit(text) {
             return number_up_to(part.most(), text);
         }
@@ -133,7 +143,10 @@ impl<'a> Names<'a> {
     }
 
     /// The same for a part whose numbers are below 2^32.
-    pub fn short(&self, part: Part, text: &str) -> Option<u32> {
+    pub fn short(&self, part: Part, text: &str) -> Option<u32>
+        ensures { spec.begins_with_digit text.now ≡ true
+            → IfSome result (λ number. number ≡ spec.number_in text.now) }
+    {
         match u32::try_from(self.number(part, text)?) {
             Ok(number) => Some(number),
             Err(_) => None,

@@ -1,8 +1,14 @@
 //! A text, read line by line.
 
-ghost use Rattle.std.specs.Prelude.{[], ◌<◌, ◌≢◌, IfOk, IsUtf8, length};
+ghost use Rattle.std.specs.Prelude.{[], ◌<◌, ◌≡◌, ◌≢◌, IfOk, IfSome, IsUtf8, OnOk, OnSome, length, map, min};
+ghost use Rattle.irp_grammar.specs.Lines.{ahead, lines_of, texts};
+ghost use Rattle.irp_grammar.specs.Reading as spec;
+ghost use Rattle.irp_grammar.specs.Reading.{IsReadFrom, members_of};
+ghost use Rattle.irp_grammar.specs.Showing.{shown};
+ghost use Rattle.irp_script_reader.specs.declared.refusal.Section.TheVariants.{Top};
 
 use crate::cursor::{Cursor, Word, WordsFault};
+use crate::lines::{end_of, pieces, words_of};
 use crate::members::count_of;
 use crate::numbers::begins_with_digit;
 use crate::said::{MOST_FAULTS, Said};
@@ -15,7 +21,10 @@ use std::alloc::{AllocError, Global};
 const MOST_BYTES: usize = 1_048_576;
 
 /// The section whose heading a word is.
-fn heading(text: &str) -> Option<Section> {
+#[tactic(auto, unfolding(crate::specs::Reading::heading))]
+fn heading(text: &str) -> Option<Section>
+    ensures { result ≡ spec.heading text.now }
+{
     Some(match text {
         "completions" => Section::Completions,
         "cancels" => Section::Cancels,
@@ -28,7 +37,10 @@ fn heading(text: &str) -> Option<Section> {
 }
 
 /// The section of the count that a word names, and the top for the form.
-fn count_named(text: &str) -> Option<Section> {
+#[tactic(auto, unfolding(crate::specs::Reading::count_named))]
+fn count_named(text: &str) -> Option<Section>
+    ensures { result ≡ spec.count_named text.now }
+{
     match text {
         "form" => Some(Section::Top),
         "seats" => Some(Section::Seats),
@@ -39,18 +51,16 @@ fn count_named(text: &str) -> Option<Section> {
 }
 
 /// The form that a word is.
-fn form_in(text: &str) -> Option<u32> {
+#[tactic(auto, unfolding(crate::specs::Reading::form_in))]
+fn form_in(text: &str) -> Option<u32>
+    ensures { result ≡ spec.form_in text.now }
+{
     match text {
         "1" => Some(1),
         "2" => Some(2),
         "4" => Some(4),
         _ => None,
     }
-}
-
-/// Whether a character parts words.
-fn is_blank(character: char) -> bool {
-    matches!(character, ' ' | '\t' | '\r')
 }
 
 /// A line that has words, and the section in which it stands.
@@ -60,75 +70,64 @@ struct Line<'a> {
     /// Its number, from 1.
     number: usize,
     words: Vec<Word<'a>>,
-    /// The column behind its last word.
-    end: usize,
 }
 
 impl<'a> Line<'a> {
     /// Its words, of which none is taken.
-    fn cursor(&self) -> Cursor<'a, '_> {
-        Cursor::new(self.words.as_slice(), self.number, self.end)
+    fn cursor(&self) -> Cursor<'a, '_>
+        ensures { ahead result ≡ (shown self.now).1 }
+    {
+        let words = self.words.as_slice();
+        Cursor::new(words, self.number, end_of(words))
+    }
+
+    /// The section of what stands below it.
+    fn below(&self) -> Section
+        ensures { result ≡ spec.below self.now.section (texts self.now.words.items) }
+    {
+        heading(self.cursor().text()).unwrap_or(self.section)
     }
 
     /// Whether it stands in `steps`.
-    fn is_in_steps(&self) -> bool {
+    fn is_in_steps(&self) -> bool
+        ensures { result ≡ spec.of_steps (shown self.now) }
+    {
         self.section == Section::Steps
     }
 }
 
-/// The words of a line.
-fn split<'a>(alloc: Global, line: &'a str) -> Result<Vec<Word<'a>>, AllocError> {
-    let said = match line.split_once('#') {
-        Some((said, _)) => said,
-        None => line,
-    };
-    let mut words = Vec::new(alloc);
-    let mut column = 1usize;
-    for text in said.split(is_blank) {
-        if !text.is_empty() {
-            words.push(Word { text, column })?;
-        }
-        column = column.saturating_add(text.len()).saturating_add(1);
-    }
-    Ok(words)
-}
-
 /// The lines of a text that have words, each in the section that the last heading above it names.
-fn lines_of<'a>(alloc: Global, text: &'a str) -> Result<Vec<Line<'a>>, AllocError> {
+fn lines_of<'a>(alloc: Global, text: &'a str) -> Result<Vec<Line<'a>>, AllocError>
+    ensures { IfOk result (λ lines.
+        map shown lines.items ≡ spec.placed Top (lines_of text.now)) }
+{
+    let pieces = pieces(alloc, text, '\n')?;
     let mut lines = Vec::new(alloc);
     let mut section = Section::Top;
     let mut number = 0usize;
-    for text in text.split('\n') {
+    for piece in pieces.as_slice() {
         number = number.saturating_add(1);
-        let words = split(alloc, text)?;
-        if let Some(last) = words.last() {
-            let end = last.column.saturating_add(last.text.len());
-            let below = heading(words[0].text).unwrap_or(section);
-            lines.push(Line {
+        let words = words_of(alloc, *piece)?;
+        if !words.is_empty() {
+            let line = Line {
                 section,
                 number,
                 words,
-                end,
-            })?;
-            section = below;
+            };
+            section = line.below();
+            lines.push(line)?;
         }
     }
     Ok(lines)
 }
 
-/// What is counted in a section, where that has a count.
-fn counted(section: Section) -> Option<Part> {
-    match section {
-        Section::Seats => Some(Part::Seat),
-        Section::Locks => Some(Part::Lock),
-        Section::Slots => Some(Part::Slot),
-        _ => None,
-    }
-}
-
 impl<'a> Said<'a> {
     /// Gives as many names as words are left to the numbers from 0 on, and gives their count.
-    fn take_names(&mut self, part: Part, words: &mut Cursor<'a, '_>) -> Option<u32> {
+    fn take_names(&mut self, part: Part, words: &mut Cursor<'a, '_>) -> Option<u32>
+        ensures said { members_of self.new ≡ members_of self.old }
+        ensures count { IfSome result (λ count.
+            count ≡ min (length (ahead words.old)) 4294967295) }
+    {
         let count = count_of(words.left());
         for number in 0..count {
             if let Some(text) = words.peek() {
@@ -140,19 +139,50 @@ impl<'a> Said<'a> {
     }
 
     /// The count that the rest of a line is: a number, or as many names as there are.
-    fn take_count(&mut self, part: Part, words: &mut Cursor<'a, '_>) -> Option<u32> {
-        let Some(first) = words.peek() else {
+    fn take_count(&mut self, part: Part, words: &mut Cursor<'a, '_>) -> Option<u32>
+        ensures said { members_of self.new ≡ members_of self.old }
+        ensures count { IfSome result (spec.IsCount (ahead words.old)) }
+    {
+        if words.left() == 0 {
             return words.fails(Wanted::Count);
-        };
-        if begins_with_digit(first) {
+        }
+        if begins_with_digit(words.text()) {
             self.short(Part::Tag, words)
         } else {
             self.take_names(part, words)
         }
     }
 
+    /// The form, or the count, that the rest of a line is.
+    fn take_number(&mut self, section: Section, words: &mut Cursor<'a, '_>) -> Option<u32>
+        ensures said { members_of self.new ≡ members_of self.old }
+        ensures number { IfSome result (spec.IsNumberOf section (ahead words.old)) }
+    {
+        match section {
+            Section::Seats => self.take_count(Part::Seat, words),
+            Section::Locks => self.take_count(Part::Lock, words),
+            Section::Slots => self.take_count(Part::Slot, words),
+            _ => words.taken(form_in(words.text()), Wanted::Form),
+        }
+    }
+
+    /// Says that the form, or a count, is this.
+    fn set(&mut self, section: Section, number: u32)
+        ensures { members_of self.new ≡ spec.with_count section number (members_of self.old) }
+    {
+        match section {
+            Section::Seats => self.seats = Some(number),
+            Section::Locks => self.locks = Some(number),
+            Section::Slots => self.slots = Some(number),
+            _ => self.form = Some(number),
+        }
+    }
+
     /// Takes a line above the sections.
-    fn take_top(&mut self, words: &mut Cursor<'a, '_>) -> Option<()> {
+    fn take_top(&mut self, words: &mut Cursor<'a, '_>) -> Option<()>
+        ensures { OnSome result
+            (spec.SaysCount (ahead words.old) (members_of self.old) (members_of self.new)) }
+    {
         let begin = *words;
         let section = words.taken(count_named(words.text()), Wanted::Heading)?;
         if self.is_placed(section) {
@@ -160,16 +190,8 @@ impl<'a> Said<'a> {
             return words.fails(Wanted::Once);
         }
         self.place(section, &begin)?;
-        let number = match counted(section) {
-            Some(part) => self.take_count(part, words)?,
-            None => words.taken(form_in(words.text()), Wanted::Form)?,
-        };
-        match section {
-            Section::Seats => self.seats = Some(number),
-            Section::Locks => self.locks = Some(number),
-            Section::Slots => self.slots = Some(number),
-            _ => self.form = Some(number),
-        }
+        let number = self.take_number(section, words)?;
+        self.set(section, number);
         Some(())
     }
 
@@ -179,7 +201,10 @@ impl<'a> Said<'a> {
         alloc: Global,
         section: Section,
         words: &mut Cursor<'a, '_>,
-    ) -> Option<()> {
+    ) -> Option<()>
+        ensures { OnSome result
+            (spec.SaysMember section (ahead words.old) (members_of self.old) (members_of self.new)) }
+    {
         match section {
             Section::Completions => self.take_completion(words),
             Section::Cancels => self.take_cancel(words),
@@ -190,14 +215,18 @@ impl<'a> Said<'a> {
         }
     }
 
-    /// Takes a line, in the section that a heading above began.
-    fn take_line(
+    /// Takes a line whose first word is the heading of this section, or none.
+    fn take_words(
         &mut self,
         alloc: Global,
+        headed: Option<Section>,
         section: Section,
         words: &mut Cursor<'a, '_>,
-    ) -> Option<()> {
-        if heading(words.text()).is_some() {
+    ) -> Option<()>
+        ensures { OnSome result (spec.SaysWords headed section (ahead words.old)
+            (members_of self.old) (members_of self.new)) }
+    {
+        if headed.is_some() {
             words.pass();
         } else {
             self.take_member(alloc, section, words)?;
@@ -206,9 +235,16 @@ impl<'a> Said<'a> {
     }
 
     /// Takes a line. Where it has a fault, it notes that, unless so many are noted.
-    fn take(&mut self, alloc: Global, line: &Line<'a>, most: usize) -> Result<(), AllocError> {
+    fn take(&mut self, alloc: Global, line: &Line<'a>, most: usize) -> Result<(), AllocError>
+        requires { 0 < most }
+        ensures { OnOk result (spec.IsTaken (shown line.now) (members_of self.old) (members_of self.new)) }
+    {
         let mut words = line.cursor();
-        if self.take_line(alloc, line.section, &mut words).is_some() {
+        let headed = heading(words.text());
+        if self
+            .take_words(alloc, headed, line.section, &mut words)
+            .is_some()
+        {
             return Ok(());
         }
         match words.fault() {
@@ -218,32 +254,47 @@ impl<'a> Said<'a> {
         }
     }
 
+    /// Takes a line where it stands in `steps`, if those are taken; else where it doesn't.
+    fn take_those(
+        &mut self,
+        alloc: Global,
+        line: &Line<'a>,
+        in_steps: bool,
+        most: usize,
+    ) -> Result<(), AllocError>
+        requires { 0 < most }
+        ensures { OnOk result (spec.IsTakenIf in_steps (shown line.now)
+            (members_of self.old) (members_of self.new)) }
+    {
+        if line.is_in_steps() == in_steps {
+            self.take(alloc, line, most)
+        } else {
+            Ok(())
+        }
+    }
+
     /// Takes those of these lines that stand in `steps`, or all others, and notes ten faults of them at most.
     fn take_lines(
         &mut self,
         alloc: Global,
         lines: &[Line<'a>],
         in_steps: bool,
-    ) -> Result<(), AllocError> {
+    ) -> Result<(), AllocError>
+        ensures { OnOk result (spec.SaySoFar (spec.those in_steps (map shown lines.now))
+            (members_of self.old) (members_of self.new)) }
+    {
         let most = self.faults.len().saturating_add(MOST_FAULTS);
         for line in lines {
-            if line.is_in_steps() == in_steps {
-                self.take(alloc, line, most)?;
-            }
+            self.take_those(alloc, line, in_steps, most)?;
         }
         Ok(())
     }
 
-    /// Takes a text: the lines in `steps` after all others, because `setup` runs before `steps`, wherever the two stand.
-    /// It leaves the first ten faults.
-    fn take_text(&mut self, alloc: Global, text: &'a str) -> Result<(), AllocError> {
-        let lines = lines_of(alloc, text)?;
-        self.take_lines(alloc, lines.as_slice(), false)?;
-        self.take_lines(alloc, lines.as_slice(), true)?;
-        if self.form == Some(1) && self.slots.is_some() {
-            let fault = self.fault_at(Section::Slots, 0, Wanted::FormTwo);
-            self.faults.push(fault)?;
-        }
+    /// Leaves the first ten faults.
+    fn order_faults(&mut self) -> Result<(), AllocError>
+        ensures { OnOk result (self.new.faults.items ≡ []
+            → members_of self.new ≡ members_of self.old) }
+    {
         self.faults
             .sort_by_key(|fault: &WordsFault<'_>| fault.line)?;
         self.faults.truncate(MOST_FAULTS);
@@ -251,8 +302,31 @@ impl<'a> Said<'a> {
     }
 }
 
+/// What is wrong with a text whose lines aren't read.
+fn unread<'a>(alloc: Global, wanted: Wanted) -> Result<Said<'a>, AllocError>
+    ensures { IfOk result (λ said. said.faults.items ≢ []) }
+{
+    let mut said = Said::new(alloc);
+    said.add_fault(WordsFault::of_text(wanted))?;
+    Ok(said)
+}
+
+/// What the lines of a text say, and what is wrong with them: those in `steps` after all others, because `setup` runs
+/// before `steps`, wherever the two stand.
+fn read_text<'a>(alloc: Global, text: &'a str) -> Result<Said<'a>, AllocError>
+    ensures { IfOk result (λ said. said.faults.items ≡ [] → IsReadFrom text.now said) }
+{
+    let mut said = Said::new(alloc);
+    let lines = lines_of(alloc, text)?;
+    said.take_lines(alloc, lines.as_slice(), false)?;
+    said.take_lines(alloc, lines.as_slice(), true)?;
+    said.note_slots()?;
+    said.order_faults()?;
+    Ok(said)
+}
+
 /// What the lines of a text say, and what is wrong with them: the first ten faults, in the order of the lines. A name
-/// stands for its number below the line that gives it, and in `steps` above that line too.
+/// stands for its number below the line that gives it. In `steps`, the names of other sections do so anywhere.
 ///
 /// # Errors
 ///
@@ -260,15 +334,13 @@ impl<'a> Said<'a> {
 pub fn read_lines<'a>(alloc: Global, bytes: &'a [u8]) -> Result<Said<'a>, AllocError>
     ensures long { (1048576 < length bytes.now) → IfOk result (λ said. said.faults.items ≢ []) }
     ensures utf8 { ¬ (IsUtf8 bytes.now) → IfOk result (λ said. said.faults.items ≢ []) }
+    ensures lines { IfOk result (λ said. said.faults.items ≡ [] → IsReadFrom bytes.now said) }
 {
-    let mut said = Said::new(alloc);
     if bytes.len() > MOST_BYTES {
-        said.faults.push(WordsFault::of_text(Wanted::Shorter))?;
-        return Ok(said);
+        return unread(alloc, Wanted::Shorter);
     }
     match str::from_utf8(bytes) {
-        Ok(text) => said.take_text(alloc, text)?,
-        Err(_) => said.faults.push(WordsFault::of_text(Wanted::Utf8))?,
+        Ok(text) => read_text(alloc, text),
+        Err(_) => unread(alloc, Wanted::Utf8),
     }
-    Ok(said)
 }

@@ -1,6 +1,9 @@
 //! What the lines of a text say, as far as they were read.
 
-ghost use Rattle.std.specs.Prelude.{◌≡◌};
+ghost use Rattle.std.specs.Prelude.{◌≡◌, ◌≢◌, ◌⊎◌, [], IfSome, OnOk, OnSome};
+ghost use Rattle.irp_grammar.specs.Lines.{IsFurther, ahead};
+ghost use Rattle.irp_grammar.specs.Numbers.{IsNumberAt};
+ghost use Rattle.irp_grammar.specs.Reading.{members_of, nothing_said};
 ghost use Rattle.irp_grammar.specs.Saying.{form_number, have_conditions};
 
 use crate::cursor::{Cursor, WordsFault};
@@ -49,7 +52,9 @@ pub struct Said<'a> {
 
 impl<'a> Said<'a> {
     /// Nothing said.
-    pub fn new(alloc: Global) -> Said<'a> {
+    pub fn new(alloc: Global) -> Said<'a>
+        ensures { members_of result ≡ nothing_said }
+    {
         Said {
             form: None,
             seats: None,
@@ -91,7 +96,9 @@ impl<'a> Said<'a> {
     }
 
     /// Notes that a member of a section begins here; none where memory runs out.
-    pub fn place(&mut self, section: Section, words: &Cursor<'a, '_>) -> Option<()> {
+    pub fn place(&mut self, section: Section, words: &Cursor<'a, '_>) -> Option<()>
+        ensures { members_of self.new ≡ members_of self.old }
+    {
         let place = Place {
             section,
             line: words.line(),
@@ -107,13 +114,19 @@ impl<'a> Said<'a> {
     }
 
     /// The number of such a part that the next word is.
-    pub fn number(&self, part: Part, words: &mut Cursor<'_, '_>) -> Option<u64> {
+    pub fn number(&self, part: Part, words: &mut Cursor<'_, '_>) -> Option<u64>
+        ensures number { IfSome result (IsNumberAt (ahead words.old)) }
+        ensures words { OnSome result (IsFurther (ahead words.old) (ahead words.new)) }
+    {
         let read = self.names.number(part, words.text());
         words.taken(read, Wanted::Of(part))
     }
 
     /// The same for a part whose numbers are below 2^32.
-    pub fn short(&self, part: Part, words: &mut Cursor<'_, '_>) -> Option<u32> {
+    pub fn short(&self, part: Part, words: &mut Cursor<'_, '_>) -> Option<u32>
+        ensures number { IfSome result (IsNumberAt (ahead words.old)) }
+        ensures words { OnSome result (IsFurther (ahead words.old) (ahead words.new)) }
+    {
         let read = self.names.short(part, words.text());
         words.taken(read, Wanted::Of(part))
     }
@@ -125,7 +138,10 @@ impl<'a> Said<'a> {
         text: &'a str,
         number: u32,
         words: &mut Cursor<'a, '_>,
-    ) -> Option<()> {
+    ) -> Option<()>
+        ensures said { members_of self.new ≡ members_of self.old }
+        ensures words { OnSome result (ahead words.new ≡ ahead words.old) }
+    {
         self.name_routine(part, text, Rule::Watch, number, words)
     }
 
@@ -137,7 +153,10 @@ impl<'a> Said<'a> {
         rule: Rule,
         number: u32,
         words: &mut Cursor<'a, '_>,
-    ) -> Option<()> {
+    ) -> Option<()>
+        ensures said { members_of self.new ≡ members_of self.old }
+        ensures words { OnSome result (ahead words.new ≡ ahead words.old) }
+    {
         if !is_name(text) {
             return words.fails(Wanted::Name);
         }
@@ -154,17 +173,37 @@ impl<'a> Said<'a> {
     }
 
     /// Notes a fault, and what may be meant.
-    pub fn note(&mut self, alloc: Global, fault: WordsFault<'a>) -> Result<(), AllocError> {
+    pub fn note(&mut self, alloc: Global, fault: WordsFault<'a>) -> Result<(), AllocError>
+        ensures { OnOk result (self.new.faults.items ≢ []) }
+    {
         let found = match fault.word {
             Some(word) => hint(alloc, word, fault.wanted, &self.names)?,
             None => None,
         };
-        Ok(
-            self.faults.push(WordsFault {
-                hint: found,
-                ..fault
-            })?,
-        )
+        let hinted = WordsFault {
+            hint: found,
+            ..fault
+        };
+        self.add_fault(hinted)
+    }
+
+    /// Puts a fault behind those that are there.
+    pub fn add_fault(&mut self, fault: WordsFault<'a>) -> Result<(), AllocError>
+        ensures { OnOk result (self.new.faults.items ≢ []) }
+    {
+        self.faults.push(fault)?;
+        Ok(())
+    }
+
+    /// Notes the fault that form 1 has slots, where it is said to.
+    pub fn note_slots(&mut self) -> Result<(), AllocError>
+        ensures { OnOk result ((self.new.faults.items ≢ []) ⊎ (self.new ≡ self.old)) }
+    {
+        if self.form == Some(1) && self.slots.is_some() {
+            let fault = self.fault_at(Section::Slots, 0, Wanted::FormTwo);
+            return self.add_fault(fault);
+        }
+        Ok(())
     }
 
     /// The fault that the script is refused so.

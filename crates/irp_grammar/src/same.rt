@@ -1,7 +1,7 @@
 //! Whether a script is what lines say.
 
-ghost use Rattle.std.specs.Prelude.{◌≡◌, ◌↔◌, map, true};
-ghost use Rattle.irp_grammar.specs.Saying.{Says, form_of, have_conditions, line_of, plan_line};
+ghost use Rattle.std.specs.Prelude.{◌≡◌, ◌↔◌, map, string_bytes, true};
+ghost use Rattle.irp_grammar.specs.Saying.{Says, form_of, have_conditions, labels_of, line_of, plan_line};
 
 use crate::said::Said;
 use crate::step_line::{PlanLine, StepLine, line_of, plan_line};
@@ -95,6 +95,29 @@ fn are_steps(lines: &[StepLine], steps: &[Step]) -> bool
     true
 }
 
+/// Whether two texts are equal.
+fn is_text(one: &str, other: &str) -> bool
+    ensures { (result ≡ true) ↔ (other.now ≡ one.now) }
+{
+    other == one
+}
+
+/// Whether labels have these texts, in the same order.
+fn are_labels(labels: &[&str], texts: &[String]) -> bool
+    ensures { (result ≡ true)
+        ↔ (map string_bytes texts.now ≡ map (λ label. label.now) labels.now) }
+{
+    if labels.len() != texts.len() {
+        return false;
+    }
+    for place in 0..labels.len() {
+        if !is_text(labels[place], texts[place].as_str()) {
+            return false;
+        }
+    }
+    true
+}
+
 /// The form that lines say.
 fn form_said(said: &Said<'_>) -> ScriptForm
     ensures { result ≡ form_of said.now.form said.now.slots (have_conditions said.now.steps.items) }
@@ -105,6 +128,24 @@ fn form_said(said: &Said<'_>) -> ScriptForm
         2 => ScriptForm::Two { slots },
         _ => ScriptForm::One,
     }
+}
+
+/// Whether a script's labels are those that the lines name.
+fn has_labels(parts: &ScriptParts, said: &Said<'_>) -> bool
+    ensures { (result ≡ true) ↔ (parts.now.labels ≡ labels_of said.now) }
+{
+    are_labels(said.names.labels(), parts.labels.as_slice())
+}
+
+/// Whether a script's steps are what the lines say, and its labels.
+fn says_steps(said: &Said<'_>, parts: &ScriptParts) -> bool
+    ensures { (result ≡ true) ↔ ((said.now.setup.items ≡ map line_of parts.now.setup)
+        × (said.now.steps.items ≡ map line_of parts.now.steps)
+        × (parts.now.labels ≡ labels_of said.now)) }
+{
+    are_steps(said.setup.as_slice(), parts.setup.as_slice())
+        && are_steps(said.steps.as_slice(), parts.steps.as_slice())
+        && has_labels(parts, said)
 }
 
 /// Whether a script's counts and lists are what the lines say, member by member in order.
@@ -118,6 +159,5 @@ pub fn says(said: &Said<'_>, parts: &ScriptParts) -> bool
         && are_cancels(parts.cancels.as_slice(), said.cancels.as_slice())
         && are_plans(said.dispatches.as_slice(), parts.dispatches.as_slice())
         && are_drivers(parts.drivers.as_slice(), said.drivers.as_slice())
-        && are_steps(said.setup.as_slice(), parts.setup.as_slice())
-        && are_steps(said.steps.as_slice(), parts.steps.as_slice())
+        && says_steps(said, parts)
 }

@@ -1,6 +1,12 @@
 //! Steps, each by its line, and a stack of devices in one line.
 
+ghost use Rattle.std.specs.Prelude.{[], ◌∷◌, ◌≡◌, ◌⊎◌, IfSome, OnSome, Some};
+ghost use Rattle.irp_grammar.specs.Lines.{IsFurther, ahead};
+ghost use Rattle.irp_grammar.specs.Reading as spec;
+ghost use Rattle.irp_grammar.specs.Reading.{AddsSteps, members_of, with_steps};
+
 use crate::cursor::Cursor;
+use crate::members::add;
 use crate::said::Said;
 use crate::step_line::{NONE, StepLine, Value, Values};
 use crate::wanted::Wanted;
@@ -17,7 +23,9 @@ struct Head {
 
 impl Head {
     /// The step with this word and these values.
-    fn step(self, act: ActKind, values: Values) -> StepLine {
+    fn step(self, act: ActKind, values: Values) -> StepLine
+        ensures { result.act ≡ act }
+    {
         StepLine {
             seat: self.seat,
             act,
@@ -28,19 +36,31 @@ impl Head {
 }
 
 impl<'a> Said<'a> {
-    /// Takes a step; none where memory runs out.
-    fn add_step(&mut self, section: Section, step: StepLine) -> Option<()> {
-        if step.act == ActKind::CreateDevice {
+    /// Counts a device, where a step creates one.
+    fn count_device(&mut self, act: ActKind)
+        ensures { members_of self.new ≡ members_of self.old }
+    {
+        if act == ActKind::CreateDevice {
             self.devices = self.devices.saturating_add(1);
         }
+    }
+
+    /// Takes a step; none where memory runs out.
+    fn add_step(&mut self, section: Section, step: StepLine) -> Option<()>
+        ensures { OnSome result
+            (members_of self.new ≡ with_steps section (step ∷ []) (members_of self.old)) }
+    {
+        self.count_device(step.act);
         match section {
-            Section::Setup => self.setup.push(step).ok(),
-            _ => self.steps.push(step).ok(),
+            Section::Setup => add(&mut self.setup, step),
+            _ => add(&mut self.steps, step),
         }
     }
 
     /// Gives the device that the next step creates a name, where the next word is `as`.
-    fn take_device_name(&mut self, words: &mut Cursor<'a, '_>) -> Option<()> {
+    fn take_device_name(&mut self, words: &mut Cursor<'a, '_>) -> Option<()>
+        ensures { members_of self.new ≡ members_of self.old }
+    {
         if !words.takes("as") {
             return Some(());
         }
@@ -52,27 +72,50 @@ impl<'a> Said<'a> {
         Some(())
     }
 
-    /// Takes the line of a stack: from the bottom up the drivers of its devices, each perhaps with a name, behind the
-    /// lock that it and those above it have. It stands for the steps that create the devices, and those that attach
-    /// each to the one below it.
-    fn take_stack(&mut self, head: Head, words: &mut Cursor<'a, '_>) -> Option<()> {
-        let begin = *words;
-        let bottom = self.devices;
-        self.take_stack_devices(head, words)?;
+    /// Attaches a device of a stack, which has this line, to the one below it.
+    fn attach(&mut self, head: Head, device: u32, line: &Cursor<'a, '_>) -> Option<()>
+        ensures { OnSome result
+            (AddsSteps head.section (members_of self.old) (members_of self.new)) }
+    {
         let mut values = NONE;
-        for device in bottom..self.devices {
-            if device > bottom {
-                values[0] = Value::Number(u64::from(device));
-                values[1] = Value::Number(u64::from(device - 1));
-                self.place(head.section, &begin)?;
-                self.add_step(head.section, head.step(ActKind::Attach, values))?;
-            }
+        values[0] = Value::Number(u64::from(device));
+        values[1] = Value::Number(u64::from(device.saturating_sub(1)));
+        self.place(head.section, line)?;
+        self.add_step(head.section, head.step(ActKind::Attach, values))?;
+        Some(())
+    }
+
+    /// Attaches the devices of a stack, from the second on, each to the one below it.
+    #[tactic(auto, using(crate::proofs::Adding::adds_both, crate::proofs::Adding::adds_none))]
+    fn attach_all(&mut self, head: Head, bottom: u32, line: &Cursor<'a, '_>) -> Option<()>
+        ensures { OnSome result
+            (AddsSteps head.section (members_of self.old) (members_of self.new)) }
+    {
+        for device in bottom.saturating_add(1)..self.devices {
+            self.attach(head, device, line)?;
         }
         Some(())
     }
 
+    /// Takes the line of a stack: from the bottom up the drivers of its devices, each perhaps with a name, behind the
+    /// lock that it and those above it have. It stands for the steps that create the devices, and those that attach
+    /// each to the one below it.
+    #[tactic(auto, using(crate::proofs::Adding::adds_both))]
+    fn take_stack(&mut self, head: Head, words: &mut Cursor<'a, '_>) -> Option<()>
+        ensures { OnSome result
+            (AddsSteps head.section (members_of self.old) (members_of self.new)) }
+    {
+        let begin = *words;
+        let bottom = self.devices;
+        self.take_stack_devices(head, words)?;
+        self.attach_all(head, bottom, &begin)?;
+        Some(())
+    }
+
     /// Takes the driver of a stack's device, its lock where that is given, and its name.
-    fn take_stack_device(&mut self, values: &mut Values, words: &mut Cursor<'a, '_>) -> Option<()> {
+    fn take_stack_device(&mut self, values: &mut Values, words: &mut Cursor<'a, '_>) -> Option<()>
+        ensures { members_of self.new ≡ members_of self.old }
+    {
         if words.takes("lock") {
             values[1] = Value::Number(self.number(Part::Lock, words)?);
         }
@@ -80,18 +123,46 @@ impl<'a> Said<'a> {
         self.take_device_name(words)
     }
 
+    /// Notes where a device of a stack begins; the first does where the line begins.
+    fn place_next(&mut self, section: Section, is_first: bool, words: &Cursor<'a, '_>) -> Option<()>
+        ensures { members_of self.new ≡ members_of self.old }
+    {
+        if is_first {
+            Some(())
+        } else {
+            self.place(section, words)
+        }
+    }
+
+    /// Takes the next device of a stack; the first stands where the line begins.
+    fn take_next_device(
+        &mut self,
+        head: Head,
+        is_first: bool,
+        values: &mut Values,
+        words: &mut Cursor<'a, '_>,
+    ) -> Option<()>
+        ensures { OnSome result
+            (AddsSteps head.section (members_of self.old) (members_of self.new)) }
+    {
+        self.place_next(head.section, is_first, words)?;
+        self.take_stack_device(values, words)?;
+        self.add_step(head.section, head.step(ActKind::CreateDevice, *values))?;
+        Some(())
+    }
+
     /// Takes the locks and the drivers of a stack.
-    fn take_stack_devices(&mut self, head: Head, words: &mut Cursor<'a, '_>) -> Option<()> {
+    #[tactic(auto, using(crate::proofs::Adding::adds_both, crate::proofs::Adding::adds_none))]
+    fn take_stack_devices(&mut self, head: Head, words: &mut Cursor<'a, '_>) -> Option<()>
+        ensures { OnSome result
+            (AddsSteps head.section (members_of self.old) (members_of self.new)) }
+    {
         if words.text() != "lock" {
             return words.fails(Wanted::StackLock);
         }
         let mut values = NONE;
         for at in 0..words.left() {
-            if at > 0 {
-                self.place(head.section, words)?;
-            }
-            self.take_stack_device(&mut values, words)?;
-            self.add_step(head.section, head.step(ActKind::CreateDevice, values))?;
+            self.take_next_device(head, at == 0, &mut values, words)?;
             if words.left() == 0 {
                 return Some(());
             }
@@ -100,7 +171,10 @@ impl<'a> Said<'a> {
     }
 
     /// The seat of a step, where the next words give it; else the first.
-    fn take_seat(&self, words: &mut Cursor<'_, '_>) -> Option<u32> {
+    #[tactic(auto, using(crate::proofs::Further::further_both))]
+    fn take_seat(&self, words: &mut Cursor<'_, '_>) -> Option<u32>
+        ensures { OnSome result (IsFurther (ahead words.old) (ahead words.new)) }
+    {
         if words.takes("seat") {
             self.short(Part::Seat, words)
         } else {
@@ -108,34 +182,80 @@ impl<'a> Said<'a> {
         }
     }
 
-    /// Takes a step, behind its head.
-    fn take_act(&mut self, head: Head, words: &mut Cursor<'a, '_>) -> Option<()> {
-        let act = words.taken(ActKind::named(words.text()), Wanted::Act)?;
-        let values = self.take_values(act, words)?;
-        if act == ActKind::CreateDevice {
-            self.take_device_name(words)?;
-        }
-        self.add_step(head.section, head.step(act, values))
-    }
-
-    /// Takes the line of a step of this section.
-    pub fn take_step(&mut self, section: Section, words: &mut Cursor<'a, '_>) -> Option<()> {
-        self.place(section, words)?;
-        if section == Section::Steps {
-            let number = self.steps.len();
-            self.take_name(Part::Step, number, words)?;
-        }
+    /// What stands before a step of this section on its line, behind its name.
+    #[tactic(auto, using(crate::proofs::Further::further_both))]
+    fn take_head(&self, section: Section, words: &mut Cursor<'_, '_>) -> Option<Head>
+        ensures section { IfSome result (λ head. head.section ≡ section) }
+        ensures words { OnSome result (IsFurther (ahead words.old) (ahead words.new)) }
+    {
         let seat = self.take_seat(words)?;
         let condition = self.take_condition(words)?;
-        let head = Head {
+        Some(Head {
             section,
             seat,
             condition,
-        };
+        })
+    }
+
+    /// Gives the device that a step creates a name, where it is such a step and the next word is `as`.
+    fn take_name_for(&mut self, act: ActKind, words: &mut Cursor<'a, '_>) -> Option<()>
+        ensures { members_of self.new ≡ members_of self.old }
+    {
+        if act == ActKind::CreateDevice {
+            self.take_device_name(words)
+        } else {
+            Some(())
+        }
+    }
+
+    /// Takes a step, behind its head.
+    fn take_act(&mut self, head: Head, words: &mut Cursor<'a, '_>) -> Option<()>
+        ensures { OnSome result (spec.SaysAct head.section (ahead words.old) (members_of self.old)
+            (members_of self.new)) }
+    {
+        let act = words.taken(ActKind::named(words.text()), Wanted::Act)?;
+        let values = self.take_values(act, words)?;
+        self.take_name_for(act, words)?;
+        self.add_step(head.section, head.step(act, values))?;
+        Some(())
+    }
+
+    /// Takes a step, or a stack, behind its head.
+    fn take_act_or_stack(&mut self, head: Head, words: &mut Cursor<'a, '_>) -> Option<()>
+        ensures { OnSome result
+            (spec.SaysAct head.section (ahead words.old) (members_of self.old) (members_of self.new)
+            ⊎ spec.SaysStack head.section (ahead words.old) (members_of self.old)
+            (members_of self.new)) }
+    {
         if words.takes("stack") {
             self.take_stack(head, words)
         } else {
             self.take_act(head, words)
         }
+    }
+
+    /// Gives the name, if the line of a step of `steps` begins with one, to it.
+    fn take_step_name(&mut self, section: Section, words: &mut Cursor<'a, '_>) -> Option<()>
+        ensures said { members_of self.new ≡ members_of self.old }
+        ensures words { OnSome result (IsFurther (ahead words.old) (ahead words.new)) }
+    {
+        if section == Section::Steps {
+            let number = self.steps.len();
+            self.take_name(Part::Step, number, words)
+        } else {
+            Some(())
+        }
+    }
+
+    /// Takes the line of a step of this section.
+    pub fn take_step(&mut self, section: Section, words: &mut Cursor<'a, '_>) -> Option<()>
+        ensures { OnSome result (spec.SaysStep section (ahead words.old) (members_of self.old)
+            (members_of self.new)) }
+    {
+        self.place(section, words)?;
+        self.take_step_name(section, words)?;
+        let head = self.take_head(section, words)?;
+        self.take_act_or_stack(head, words)?;
+        Some(())
     }
 }

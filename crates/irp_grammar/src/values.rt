@@ -1,5 +1,8 @@
 //! What stands under the keys of steps and behind the names of plans, each by its words.
 
+ghost use Rattle.std.specs.Prelude.{◌≡◌};
+ghost use Rattle.irp_grammar.specs.Reading.{members_of};
+
 use crate::cursor::Cursor;
 use crate::names::{is_label, number_up_to};
 use crate::numbers::number_in;
@@ -83,7 +86,9 @@ impl<'a> Said<'a> {
     }
 
     /// The packet, or the label, that the next word is.
-    fn take_packet(&mut self, part: Part, words: &mut Cursor<'a, '_>) -> Option<Named> {
+    fn take_packet(&mut self, part: Part, words: &mut Cursor<'a, '_>) -> Option<Named>
+        ensures { members_of self.new ≡ members_of self.old }
+    {
         match words.taken(spelling_of(part, words.text()), Wanted::Of(part))? {
             Spelled::Label(label) => Some(Named::Label(self.names.label(label).ok()?)),
             Spelled::Irp(irp) => Some(Named::Irp(irp)),
@@ -91,7 +96,9 @@ impl<'a> Said<'a> {
     }
 
     /// The value of such a part that the next words are.
-    fn take_value(&mut self, part: Part, words: &mut Cursor<'a, '_>) -> Option<Value> {
+    fn take_value(&mut self, part: Part, words: &mut Cursor<'a, '_>) -> Option<Value>
+        ensures { members_of self.new ≡ members_of self.old }
+    {
         if let Some(value) = plain(part, words.text()) {
             words.pass();
             return Some(value);
@@ -104,7 +111,9 @@ impl<'a> Said<'a> {
     }
 
     /// The values of these parts that the next words are.
-    pub fn take_parts(&mut self, parts: &[Part], words: &mut Cursor<'a, '_>) -> Option<Values> {
+    pub fn take_parts(&mut self, parts: &[Part], words: &mut Cursor<'a, '_>) -> Option<Values>
+        ensures { members_of self.new ≡ members_of self.old }
+    {
         let mut values = NONE;
         for (part, value) in parts.iter().zip(values.iter_mut()) {
             *value = self.take_value(*part, words)?;
@@ -118,7 +127,9 @@ impl<'a> Said<'a> {
         act: ActKind,
         values: &mut Values,
         words: &mut Cursor<'a, '_>,
-    ) -> Option<()> {
+    ) -> Option<()>
+        ensures { members_of self.new ≡ members_of self.old }
+    {
         let text = words.text();
         for (key, value) in act.keys().iter().zip(values.iter_mut()) {
             if key.0 == text && matches!(*value, Value::Absent) {
@@ -131,9 +142,11 @@ impl<'a> Said<'a> {
     }
 
     /// The values of a step's keys, which are the next words with them, in any order.
-    pub fn take_values(&mut self, act: ActKind, words: &mut Cursor<'a, '_>) -> Option<Values> {
+    pub fn take_values(&mut self, act: ActKind, words: &mut Cursor<'a, '_>) -> Option<Values>
+        ensures { members_of self.new ≡ members_of self.old }
+    {
         let mut values = NONE;
-        for _ in act.keys() {
+        for _key in act.keys() {
             self.take_key(act, &mut values, words)?;
         }
         Some(values)

@@ -1,6 +1,6 @@
 -- How the program ends by what was judged.
 use Rattle.std.proofs.Common.{◌≡◌, ◌<◌, ◌∙◌, ◌⊎◌, inl, inr, ℕ, Bool, List, Option, Some, None, length, ap, refl, sym, subst, arith, Contains}
-use Rattle.std.specs.Prelude.{⊤, slice_get, Err, Ok}
+use Rattle.std.specs.Prelude.{⊤, slice_get, Err}
 use Rattle.std.proofs.lemmas.List.{length-map, get_or-map}
 use Rattle.std.proofs.lemmas.List.Elements.{All-map, Contains-get_or}
 use Rattle.std.proofs.lemmas.Option.{get_or_from_slice_get, slice_get_within}
@@ -18,7 +18,6 @@ use Rattle.irp_machine.specs.Orders.{AreOutcomesOf, HasMoreEnds, IsMet}
 use Rattle.irp_machine.specs.declared.limits.NotFound.{NotFound}
 use Rattle.irp_machine.specs.declared.limits.NotFound.TheVariants as found
 use Rattle.irp_machine.specs.declared.outcome.Outcome.{Outcome}
-use Rattle.irp_script_reader.specs.Scripts.{ReadsScript}
 use Rattle.irp_script_reader.specs.declared.script.ScriptParts.{ScriptParts}
 use Rattle.irp_orders.specs.Conditions.{IsScopeOf, Says}
 use Rattle.irp_orders.specs.Ending.{of_unfound, of_unheard, of_unread}
@@ -26,7 +25,7 @@ use Rattle.irp_orders.specs.Facts.{Meets}
 use Rattle.irp_orders.specs.Founds.{outcomes_of}
 use Rattle.irp_orders.specs.Judging.{IsBreach, IsTold, IsVerdict, verdict_ending}
 use Rattle.irp_orders.specs.Exploring.{IsUnexplored, most_steps, tells}
-use Rattle.irp_orders.specs.Program.{Answers, Explores, IsAnswered, IsGivenUp, IsInput, IsRefused, IsToldOfJson, IsUnread, Judges}
+use Rattle.irp_orders.specs.Program.{Explores, ExploresWords, IsAnswered, IsFaulty, IsGivenUp, IsInput, IsRefused, IsToldOfWords, IsUnread, Judges}
 use Rattle.irp_orders.specs.declared.asked.Order.{Order}
 use Rattle.irp_orders.specs.declared.ending.Ending.{Ending}
 use Rattle.irp_orders.specs.declared.found.Found.{Found}
@@ -125,6 +124,8 @@ pub explored_by : (order : Order) (left rest old new : Option (List ℕ)) (text 
 explored_by order left rest old new text ending input (inl given) = inl given
 explored_by order left rest old new text ending input (inr told) = inr (text, input, told)
 
-pub told_of_json : (order : Order) (old new : Option (List ℕ)) (json : List ℕ) (script : ScriptParts) (ending : Ending)
-    → ReadsScript (Ok script) json → Answers script order order.task old new ending → IsToldOfJson order old new ending
-told_of_json order old new json script ending read answered = (json, inr (inr (script, read, answered)))
+-- words in the input: their faults are told, or what is asked of the script that they say is answered
+pub explored_of_words : (order : Order) (left rest old new : Option (List ℕ)) (text : List ℕ) (ending : Ending)
+    → IsInput left rest text → IsFaulty ending ⊎ IsToldOfWords order text old new ending
+    → ExploresWords order left rest old new ending
+explored_of_words order left rest old new text ending input told = inr (text, input, told)

@@ -32,7 +32,8 @@ is_in_words (Some name) = ends_with (λ one other. one == other) name (codes ".w
 
 -- the orders are explored of a script in words, or of one of JSON
 abbrev pub ExploresAs : Bool → Order → Option (List ℕ) → Option (List ℕ) → Ending → Type 0
-ExploresAs true order before after ending = ExploresWords order before after ending
+ExploresAs true order before after ending =
+    (left rest : Option (List ℕ)) × ExploresWords order left rest before after ending
 ExploresAs false order before after ending =
     (left rest : Option (List ℕ)) × Explores order left rest before after ending
 

@@ -10,6 +10,7 @@ use Rattle.irp_machine.specs.declared.outcome.Outcome.{Outcome}
 use Rattle.irp_types.specs.declared.entry.Entry.{Entry}
 use Rattle.irp_transcript.specs.Transcripts.{TranscriptValue}
 use Rattle.irp_transcript_writer.specs.Lines.{lines, text_of}
+use Rattle.irp_grammar.specs.Reading.{IsSaidIn}
 use Rattle.irp_script_reader.specs.Scripts.{ReadsScript}
 use Rattle.irp_script_reader.specs.declared.refusal.ScriptFault.TheVariants.{Refused}
 use Rattle.irp_script_reader.specs.declared.script.ScriptParts.{ScriptParts}
@@ -273,11 +274,15 @@ IsFaulty Differs = ⊤
 IsFaulty NoMemory = ⊤
 IsFaulty other = ⊥
 
--- the program does with some text of JSON what it does with its input
-abbrev pub IsToldOfJson : Order → Option (List ℕ) → Option (List ℕ) → Ending → Type 0
-IsToldOfJson order old new ending =
-    (json : List ℕ) × (IsGivenUp ending ⊎ (IsRefused json ending ⊎ IsAnswered order json old new ending))
+-- the lines of a text say a script, and this is answered of it
+abbrev pub IsToldOfWords : Order → List ℕ → Option (List ℕ) → Option (List ℕ) → Ending → Type 0
+IsToldOfWords order text old new ending =
+    (script : ScriptParts) × IsSaidIn text script × Answers script order order.task old new ending
 
--- what the program does with words: it gives up, or tells their faults; or it takes the JSON that they say
-abbrev pub ExploresWords : Order → Option (List ℕ) → Option (List ℕ) → Ending → Type 0
-ExploresWords order old new ending = IsGivenUp ending ⊎ (IsFaulty ending ⊎ IsToldOfJson order old new ending)
+-- what the program does with words in its input: it gives up, or tells their faults; or it answers what is asked of the
+-- script that they say
+abbrev pub ExploresWords :
+    Order → Option (List ℕ) → Option (List ℕ) → Option (List ℕ) → Option (List ℕ) → Ending → Type 0
+ExploresWords order left rest old new ending =
+    IsGivenUp ending
+    ⊎ ((text : List ℕ) × IsInput left rest text × (IsFaulty ending ⊎ IsToldOfWords order text old new ending))

@@ -1,7 +1,7 @@
 //! Telling what is asked of the orders of a script in words.
 
 ghost use Rattle.std.specs.Prelude.{◌⊎◌};
-ghost use Rattle.irp_orders.specs.Program.{ExploresWords, IsFaulty, IsToldOfJson};
+ghost use Rattle.irp_orders.specs.Program.{ExploresWords, IsFaulty, IsToldOfWords};
 
 use crate::answering::answer;
 use crate::asked::Order;
@@ -29,7 +29,7 @@ fn ending_of(alloc: Global, untold: Untold<'_>) -> Ending
 /// Tells what is asked of the orders of the script that words say.
 fn answer_words<O: Out>(alloc: Global, output: &mut O, order: &Order<'_>, text: &[u8]) -> Ending
     ensures { IsFaulty result
-        ⊎ IsToldOfJson order.now (O.gone output.old) (O.gone output.new) result }
+        ⊎ IsToldOfWords order.now text.now (O.gone output.old) (O.gone output.new) result }
 {
     match json_of(alloc, text) {
         Ok(told) => answer(alloc, output, &told.script, order),
@@ -45,7 +45,8 @@ pub fn explore_words<R: Read, O: Out>(
     output: &mut O,
     order: &Order<'_>,
 ) -> Ending
-    ensures { ExploresWords order.now (O.gone output.old) (O.gone output.new) result }
+    ensures { ExploresWords order.now (R.remaining input.old) (R.remaining input.new)
+        (O.gone output.old) (O.gone output.new) result }
 {
     match read_up_to(alloc, input, TOO_MANY_BYTES) {
         Ok(text) => answer_words(alloc, output, order, text.as_slice()),

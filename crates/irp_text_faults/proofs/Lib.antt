@@ -1,1 +1,3 @@
+pub mod Joining
+pub mod Placing
 pub mod Telling

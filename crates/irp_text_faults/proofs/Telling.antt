@@ -2,7 +2,7 @@
 use Rattle.std.specs.Prelude.{ℕ, List, [], ◌∷◌, Err}
 use Rattle.std.proofs.Common.{sym, subst}
 use Rattle.irp_text_faults.specs.Advice.{BeginsWith, IsAdviceOn}
-use Rattle.irp_text_faults.specs.declared.fault.FaultMessage.{FaultMessage}
+use Rattle.irp_text_faults.specs.declared.message.FaultMessage.{FaultMessage}
 use Rattle.irp_script_reader.specs.Scripts.{ReadsScript}
 use Rattle.irp_script_reader.specs.declared.refusal.ScriptRefusal.{ScriptRefusal}
 use Rattle.irp_script_reader.specs.declared.refusal.ScriptFault.TheVariants.{Refused}

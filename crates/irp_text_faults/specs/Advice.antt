@@ -1,6 +1,6 @@
 -- What is said of a text that is meant as a script.
 use Rattle.std.specs.Prelude.{◌≡◌, ℕ, List, [], ◌∷◌, Ok, Err}
-use Rattle.irp_text_faults.specs.declared.fault.FaultMessage.{FaultMessage}
+use Rattle.irp_text_faults.specs.declared.message.FaultMessage.{FaultMessage}
 use Rattle.irp_script_reader.specs.Scripts.{ReadsScript}
 use Rattle.irp_script_reader.specs.declared.refusal.ScriptRefusal.{ScriptRefusal}
 use Rattle.irp_script_reader.specs.declared.refusal.ScriptFault.TheVariants.{Refused}

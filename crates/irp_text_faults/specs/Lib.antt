@@ -1,3 +1,9 @@
 pub mod Advice
+pub mod InPart
+pub mod Keys
+pub mod OneLine
+pub mod Placed
 pub mod Places
+pub mod Reading
+pub mod Spelling
 pub mod Told

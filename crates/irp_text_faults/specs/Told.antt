@@ -5,26 +5,14 @@ use Rattle.irp_script_reader.specs.declared.refusal.ScriptRefusal.{ScriptRefusal
 use Rattle.irp_script_reader.specs.declared.refusal.ScriptRefusal.TheVariants as refusal
 use Rattle.irp_script_reader.specs.declared.refusal.Section.{Section}
 use Rattle.irp_script_reader.specs.declared.refusal.Section.TheVariants as section
-use Rattle.irp_text_faults.specs.declared.fault.FaultMessage.{FaultMessage}
+use Rattle.irp_text_faults.specs.Keys.{key_of}
+use Rattle.irp_text_faults.specs.declared.message.FaultMessage.{FaultMessage}
 use Rattle.irp_text_faults.specs.declared.places.Place.{Place}
 
 -- a line and a column
 abbrev pub place_text : Place → List ℕ
 place_text place =
     codes "line " ++ (decimal place.line ++ (codes ", column " ++ (decimal place.column ++ codes ": ")))
-
--- the key of a section
-abbrev pub key_of : Section → List ℕ
-key_of section.Top = []
-key_of section.Seats = codes "seats"
-key_of section.Locks = codes "locks"
-key_of section.Slots = codes "slots"
-key_of section.Completions = codes "completions"
-key_of section.Cancels = codes "cancels"
-key_of section.Dispatches = codes "dispatches"
-key_of section.Drivers = codes "drivers"
-key_of section.Setup = codes "setup"
-key_of section.Steps = codes "steps"
 
 -- which member of a section is meant; none of a number
 abbrev pub member_text : Section → ℕ → List ℕ

@@ -1,104 +1,30 @@
 //! The faults of a script, each with its place. Source: this project's own rule.
 
-ghost use Rattle.std.specs.Prelude.{◌≡◌, ◌∷◌, IfOk};
-ghost use Rattle.irp_names.specs.Sinks.{Says};
+ghost use Rattle.std.specs.Prelude.{◌≡◌, ◌∷◌, IfOk, OnOk};
+ghost use Rattle.std.specs.List.{All};
 ghost use Rattle.irp_text_faults.specs.Advice.{BeginsWith, IsAdviceOn};
-ghost use Rattle.irp_text_faults.specs.Told.{member_text, message_text, named_text, part_text, place_text, section_text};
+ghost use Rattle.irp_text_faults.specs.Placed.{IsPlaced};
 
 use crate::around::Around;
 use crate::lists::{check_completion, check_driver, check_plan};
+use crate::message::FaultMessage;
 use crate::nodes::Node;
 use crate::not_json::tell_no_json;
 use crate::part::Part;
-use crate::places::Place;
+use crate::places::place_of;
 use crate::script_words::check_part;
+use crate::seeking::in_part;
 use crate::steps::check_step;
 use crate::tokens::{Token, tokens_of};
 use crate::top::{check_top, key_of, no_list, tell_count, tell_form, too_long};
 use crate::words::{Finding, Piece};
 use Piece::Say;
-use irp_names::Sink;
 use irp_script_reader::MemberFault::{BadField, RuleBroken};
 use irp_script_reader::{ScriptFault, ScriptRefusal, Section, read_script};
 use std::alloc::{AllocError, Global};
 
 /// The most faults that are told.
 const MOST_FAULTS: usize = 10;
-
-/// One thing that is wrong with a script.
-#[derive(Drop)]
-pub struct FaultMessage {
-    /// What `irpx` names: its display is `S4 steps 37`.
-    pub refusal: ScriptRefusal,
-    /// Where it stands.
-    pub place: Place,
-    /// What is wrong, what it may be, and a remedy where there is one.
-    words: String,
-}
-
-impl FaultMessage {
-    /// Puts the message, in one line without a newline: the section and the member, line and column, what is wrong, what
-    /// it may be, and a remedy where there is one.
-    #[tactic(auto, using(irp_names::proofs::Saying::says_both))]
-    pub fn write(&self, out: &mut Sink)
-        ensures { Says (message_text self.now) out.old out.new }
-    {
-        put_part(out, self.refusal);
-        put_place(out, self.place);
-        out.put(self.words.as_str());
-    }
-}
-
-/// Puts the part that a refusal names.
-fn put_part(out: &mut Sink, refusal: ScriptRefusal)
-    ensures { Says (part_text refusal) out.old out.new }
-{
-    if let ScriptRefusal::At { section, index, .. } = refusal {
-        put_section(out, section, index);
-    }
-}
-
-/// Puts which member of a section is meant; nothing of a number.
-fn put_member(out: &mut Sink, section: Section, index: usize)
-    ensures { Says (member_text section index) out.old out.new }
-{
-    if matches!(section, Section::Seats | Section::Locks | Section::Slots) {
-        return;
-    }
-    out.put("[");
-    out.number(index as u64);
-    out.put("]");
-}
-
-/// Puts a section that has a key, and which of its members is meant.
-fn put_named(out: &mut Sink, section: Section, index: usize)
-    ensures { Says (named_text section index) out.old out.new }
-{
-    out.put(key_of(section));
-    put_member(out, section, index);
-    out.put(", ");
-}
-
-/// Puts a section, and which of its members is meant; nothing of the top.
-pub fn put_section(out: &mut Sink, section: Section, index: usize)
-    ensures { Says (section_text section index) out.old out.new }
-{
-    match section {
-        Section::Top => {}
-        other => put_named(out, other, index),
-    }
-}
-
-/// Puts a place.
-pub fn put_place(out: &mut Sink, place: Place)
-    ensures { Says (place_text place) out.old out.new }
-{
-    out.put("line ");
-    out.number(place.line as u64);
-    out.put(", column ");
-    out.number(place.column as u64);
-    out.put(": ");
-}
 
 /// Whether a member of a section is right.
 fn check_member(found: &mut Finding, around: Around, section: Section, node: Node) -> bool {
@@ -171,11 +97,17 @@ fn tell(alloc: Global, found: &mut Finding, whole: Node, refusal: ScriptRefusal)
     }
 }
 
-/// The fault with its words and its place. The one error is want of memory.
-fn fault_of(found: Finding<'_>, refusal: ScriptRefusal) -> Result<FaultMessage, AllocError>
-    ensures { IfOk result (λ fault. fault.refusal ≡ refusal) }
+/// The fault of a text with its words and its place, which is that of a byte in the part that the refusal names. The one
+/// error is want of memory.
+fn fault_of(
+    found: Finding<'_>,
+    text: &[u8],
+    refusal: ScriptRefusal,
+) -> Result<FaultMessage, AllocError>
+    ensures refusal { IfOk result (λ fault. fault.refusal ≡ refusal) }
+    ensures placed { IfOk result (IsPlaced text.now) }
 {
-    let place = found.place();
+    let place = place_of(text, in_part(refusal, text, found.at()));
     let words = found.finish()?;
     Ok(FaultMessage {
         refusal,
@@ -190,24 +122,28 @@ fn first_fault(
     whole: Node,
     refusal: ScriptRefusal,
 ) -> Result<FaultMessage, AllocError>
-    ensures { IfOk result (λ fault. fault.refusal ≡ refusal) }
+    ensures refusal { IfOk result (λ fault. fault.refusal ≡ refusal) }
+    ensures placed { IfOk result (IsPlaced whole.entry.text.now) }
 {
     let mut found = Finding::new(alloc, whole.text);
     tell(alloc, &mut found, whole, refusal);
-    fault_of(found, refusal)
+    fault_of(found, whole.text, refusal)
 }
 
 /// Puts the fault of a section's member, where it has one by itself, whatever the other lists have: an earlier fault in
 /// these may be the cause of the rest. The one error is want of memory.
 fn add_fault(
-    alloc: Global,
     more: &mut Vec<FaultMessage>,
+    text: &[u8],
     around: Around,
     section: Section,
     index: usize,
     node: Node,
-) -> Result<(), AllocError> {
-    let mut found = Finding::new(alloc, around.whole.text);
+) -> Result<(), AllocError>
+    ensures { OnOk result (
+        All (IsPlaced text.now) more.old.items → All (IsPlaced text.now) more.new.items) }
+{
+    let mut found = Finding::new(*more.allocator(), text);
     let is_right = check_member(&mut found, around, section, node);
     let fault = found.fault();
     if is_right || !matches!(fault, BadField | RuleBroken) {
@@ -218,23 +154,26 @@ fn add_fault(
         section,
         index,
     };
-    more.push(fault_of(found, refusal)?)?;
+    more.push(fault_of(found, text, refusal)?)?;
     Ok(())
 }
 
 /// Puts the faults of a section's members from this place on, up to so many in all. The one error is want of memory.
 fn add_faults(
-    alloc: Global,
     more: &mut Vec<FaultMessage>,
+    text: &[u8],
     around: Around,
     section: Section,
     from: usize,
-) -> Result<(), AllocError> {
+) -> Result<(), AllocError>
+    ensures { OnOk result (
+        All (IsPlaced text.now) more.old.items → All (IsPlaced text.now) more.new.items) }
+{
     let mut next = member_of(around.whole, section, from);
     for index in from..around.whole.tokens.len() {
         match next {
             Some(node) if more.len() < MOST_FAULTS => {
-                add_fault(alloc, more, around, section, index, node)?;
+                add_fault(more, text, around, section, index, node)?;
                 next = node.next();
             }
             _ => return Ok(()),
@@ -258,25 +197,19 @@ fn more_faults(
     alloc: Global,
     whole: Node,
     refusal: ScriptRefusal,
-) -> Result<Vec<FaultMessage>, AllocError> {
+) -> Result<Vec<FaultMessage>, AllocError>
+    ensures { IfOk result (λ found. All (IsPlaced whole.entry.text.now) found.items) }
+{
     let mut more = Vec::new(alloc);
     let ScriptRefusal::At { section, index, .. } = refusal else {
         return Ok(more);
     };
     let mut comes = false;
     for list in LISTS {
+        let from = if comes { 0 } else { index.saturating_add(1) };
+        comes = comes || *list == section;
         if comes {
-            add_faults(alloc, &mut more, Around::of(whole), *list, 0)?;
-        }
-        if *list == section {
-            comes = true;
-            add_faults(
-                alloc,
-                &mut more,
-                Around::of(whole),
-                *list,
-                index.saturating_add(1),
-            )?;
+            add_faults(&mut more, whole.text, Around::of(whole), *list, from)?;
         }
     }
     Ok(more)
@@ -299,13 +232,15 @@ fn in_front(
 
 /// The faults of a text with these tokens that is refused so: first that of this refusal. The one error is want of
 /// memory.
+#[tactic(auto, using(crate::proofs::Placing::placed_in_front))]
 fn faults_of(
     alloc: Global,
     text: &[u8],
     tokens: &[Token],
     refusal: ScriptRefusal,
 ) -> Result<Vec<FaultMessage>, AllocError>
-    ensures { IfOk result (λ found. BeginsWith refusal found.items) }
+    ensures first { IfOk result (λ found. BeginsWith refusal found.items) }
+    ensures placed { IfOk result (λ found. All (IsPlaced text.now) found.items) }
 {
     let whole = Node {
         text,
@@ -314,7 +249,8 @@ fn faults_of(
     };
     let first = first_fault(alloc, whole, refusal)?;
     let more = more_faults(alloc, whole, refusal)?;
-    in_front(alloc, first, more)
+    let all = in_front(alloc, first, more)?;
+    Ok(all)
 }
 
 /// The faults of a text that is refused so: first that of this refusal. The one error is want of memory.
@@ -323,7 +259,8 @@ fn all_faults(
     text: &[u8],
     refusal: ScriptRefusal,
 ) -> Result<Vec<FaultMessage>, AllocError>
-    ensures { IfOk result (λ found. BeginsWith refusal found.items) }
+    ensures first { IfOk result (λ found. BeginsWith refusal found.items) }
+    ensures placed { IfOk result (λ found. All (IsPlaced text.now) found.items) }
 {
     let tokens = match refusal {
         ScriptRefusal::TooLong => Vec::new(alloc),
@@ -340,7 +277,8 @@ fn all_faults(
 /// Memory runs out.
 #[tactic(auto, using(crate::proofs::Telling::begins_advice))]
 pub fn faults(alloc: Global, text: &[u8]) -> Result<Vec<FaultMessage>, AllocError>
-    ensures { IfOk result (λ found. IsAdviceOn found.items text.now) }
+    ensures advice { IfOk result (λ found. IsAdviceOn found.items text.now) }
+    ensures placed { IfOk result (λ found. All (IsPlaced text.now) found.items) }
 {
     match read_script(alloc, text) {
         Ok(_script) => Ok(Vec::new(alloc)),

@@ -1,5 +1,8 @@
 //! What is wrong with a transcript's line.
 
+ghost use Rattle.std.specs.Prelude.{string_bytes};
+ghost use Rattle.irp_text_faults.specs.OneLine.{IsOneLine};
+
 use crate::header::look_at_tables;
 use crate::line_words::put_misfit;
 use crate::nodes::Node;
@@ -25,6 +28,7 @@ pub struct LineFault {
     pub column: usize,
     /// Which part it is, and what that may be, behind a comma or a colon.
     pub words: String,
+    pub ghost one_line: { IsOneLine (string_bytes words) },
 }
 
 /// What is settled for a line.

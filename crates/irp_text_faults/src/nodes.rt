@@ -1,5 +1,6 @@
 //! The values of a JSON text, each with its place.
 
+use crate::spelling::says;
 use crate::tokens::{Kind, Token, cut};
 use crate::words::Span;
 
@@ -27,19 +28,6 @@ pub fn number_of(digits: &[u8]) -> Option<u64> {
         None
     } else {
         Some(number)
-    }
-}
-
-/// What stands in a text behind a letter of ASCII, as it is or escaped. None where another one stands there.
-fn behind_letter(word: &[u8], letter: u8) -> Option<&[u8]> {
-    if word.first() == Some(&letter) {
-        return word.get(1..);
-    }
-    let digits = word.get(4..6)?;
-    if word.starts_with(b"\\u00".as_slice()) && hexadecimal_of(digits)? == u64::from(letter) {
-        word.get(6..)
-    } else {
-        None
     }
 }
 
@@ -163,14 +151,10 @@ impl<'t> Node<'t> {
 
     /// Whether it is a text of this word, of letters of ASCII: each may be written as it stands, or as `\u0061`.
     pub fn is_word(self, name: &str) -> bool {
-        let mut rest = self.word();
-        for letter in name.as_bytes() {
-            rest = match rest {
-                Some(word) => behind_letter(word, *letter),
-                None => return false,
-            };
+        match self.word() {
+            Some(word) => says(name.as_bytes(), word),
+            None => false,
         }
-        rest.is_some_and(|word| word.is_empty())
     }
 
     /// The key under which it stands. None where it stands in a list, or is the whole text.

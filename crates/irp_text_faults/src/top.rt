@@ -1,7 +1,7 @@
 //! What is wrong with the keys of a script and with its numbers. Source: this project's own format (docs/FORMATS.md).
 
 ghost use Rattle.std.specs.Prelude.{◌≡◌};
-ghost use Rattle.irp_text_faults.specs.Told.{key_of};
+ghost use Rattle.irp_text_faults.specs.Keys.{key_of};
 
 use crate::around::Around;
 use crate::nodes::{Node, number_of};

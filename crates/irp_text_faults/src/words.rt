@@ -1,6 +1,10 @@
 //! What is said of a fault: words, numbers and pieces of the text.
 
+ghost use Rattle.std.specs.Prelude.{IfOk, string_bytes};
+ghost use Rattle.irp_text_faults.specs.OneLine.{IsOneLine};
+
 use crate::nodes::Node;
+use crate::one_line::in_one_line;
 use crate::part::Key;
 use crate::places::{Place, place_of};
 use crate::tokens::cut;
@@ -74,6 +78,11 @@ impl<'t> Finding<'t> {
     /// Where memory comes from.
     pub fn alloc(&self) -> Global {
         self.alloc
+    }
+
+    /// Where it stands in the text, counted in bytes.
+    pub(crate) fn at(&self) -> usize {
+        self.at
     }
 
     /// Where it stands.
@@ -160,9 +169,13 @@ impl<'t> Finding<'t> {
         false
     }
 
-    /// What is said. The one error is that memory ran out.
-    pub fn finish(self) -> Result<String, AllocError> {
-        self.words.finish()
+    /// What is said, in one line. The one error is that memory ran out.
+    pub fn finish(self) -> Result<String, AllocError>
+        ensures { IfOk result (λ words. IsOneLine (string_bytes words)) }
+    {
+        let alloc = self.alloc;
+        let words = self.words.finish()?;
+        in_one_line(alloc, words.as_str())
     }
 }
 

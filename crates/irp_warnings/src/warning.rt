@@ -1,7 +1,7 @@
 //! Warnings. A file of its own, since definitions that clauses cite name these.
 
-ghost use Rattle.irp_names.specs.Sinks.{Says};
-ghost use Rattle.irp_warnings.specs.Told.{warning_text};
+ghost use Rattle.std.specs.Prelude.{string_bytes};
+ghost use Rattle.irp_text_faults.specs.OneLine.{IsOneLine};
 
 use irp_names::Sink;
 use irp_script_reader::Section;
@@ -63,20 +63,26 @@ pub struct Warning {
     pub(crate) concern: Concern,
     /// That in words.
     pub(crate) words: String,
+    pub ghost one_line: { IsOneLine (string_bytes words) },
 }
 
 impl Warning {
+    ghost use Rattle.irp_names.specs.Sinks.{Says};
+    ghost use Rattle.irp_warnings.specs.Told.{warning_text};
+
     /// Puts the message, in one line without a newline, which begins with `warning: `.
     pub fn write(&self, out: &mut Sink)
-        ensures { Says (warning_text self.now.place self.now) out.old out.new }
+        ensures says { Says (warning_text self.now.place self.now) out.old out.new }
+        ensures one_line { IsOneLine (warning_text self.now.place self.now) }
     {
         self.write_at(out, self.place);
     }
 
     /// The same, with another place: that of the step in the text from which the JSON was made.
-    #[tactic(auto, using(irp_names::proofs::Saying::says_both))]
+    #[tactic(auto, using(irp_names::proofs::Saying::says_both, irp_text_faults::proofs::Joining::one_line_both))]
     pub fn write_at(&self, out: &mut Sink, place: Place)
-        ensures { Says (warning_text place self.now) out.old out.new }
+        ensures says { Says (warning_text place self.now) out.old out.new }
+        ensures one_line { IsOneLine (warning_text place self.now) }
     {
         out.put("warning: ");
         put_section(out, self.section, self.index);

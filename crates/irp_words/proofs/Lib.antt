@@ -1,1 +1,3 @@
 pub mod CommandLine
+mod Finding
+mod ToldOfWords

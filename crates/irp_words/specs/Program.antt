@@ -7,7 +7,7 @@ use Rattle.irp_program.specs.declared.opening.Unopened.{Unopened}
 use Rattle.irp_program.specs.declared.words.Unasked.{Unasked}
 use Rattle.irp_words.specs.CommandLine.{AsksForOrMemory, command_line}
 use Rattle.irp_words.specs.Ending.{of_unopened, of_words}
-use Rattle.irp_words.specs.Telling.{IsSent, Obeys, PrintsWhole}
+use Rattle.irp_words.specs.Telling.{IsSent, ObeysOn, PrintsWhole}
 use Rattle.irp_words.specs.declared.ending.Ending.{Ending}
 use Rattle.irp_words.specs.declared.ending.Ending.TheVariants.{Done}
 use Rattle.irp_words.specs.declared.orders.Asked.{Asked}
@@ -28,7 +28,7 @@ OpensNone (Some name) before after ending =
 abbrev pub Does : Order → Option (List ℕ) → Option (List ℕ) → Ending → Type 0
 Does Help before after ending = (text : List ℕ) × IsSent text Done before after ending
 Does Tables before after ending = PrintsWhole ending before after
-Does (Read task) before after ending = Obeys task ending before after
+Does (Read task) before after ending = (input : Option (List ℕ)) × ObeysOn task input ending before after
 
 -- what is asked for is done, with the file that is named or with standard input; or the file isn't opened
 abbrev pub DoesOn : Asked → Option (List ℕ) → Option (List ℕ) → Ending → Type 0

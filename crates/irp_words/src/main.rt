@@ -10,7 +10,7 @@ mod words;
 
 ghost use Rattle.std.specs.Prelude.{map, string_bytes};
 ghost use Rattle.irp_words.specs.Program.{DoesOn, ObeysWords};
-ghost use Rattle.irp_words.specs.Telling.{Obeys};
+ghost use Rattle.irp_words.specs.Telling.{Obeys, ObeysOn};
 
 use crate::ending::Ending;
 use crate::orders::{Asked, Order, Task};
@@ -20,8 +20,25 @@ use std::alloc::Global;
 use std::io::{self, Read};
 use std::process::ExitCode;
 
-/// Does what is asked for: reads a text from the input, and writes to the output; what is wrong with the text goes to
-/// `errors`, but where that was asked for.
+/// Does what is asked for with a text, and writes to the output; what is wrong with the text goes to `errors`, but where
+/// that was asked for.
+fn run_with<O: Out, E: Out>(
+    alloc: Global,
+    text: &[u8],
+    output: &mut O,
+    errors: &mut E,
+    task: Task,
+) -> Ending
+    ensures { Obeys task text.now result (O.gone output.old) (O.gone output.new) }
+{
+    match task {
+        Task::Json => telling::tell_json(alloc, output, errors, text),
+        Task::Words => telling::tell_words(alloc, output, errors, text),
+        Task::Faults { strict } => telling::tell_faults(alloc, output, strict, text),
+    }
+}
+
+/// Does what is asked for with the text that is read from the input.
 fn run<R: Read, O: Out, E: Out>(
     alloc: Global,
     input: &mut R,
@@ -29,16 +46,11 @@ fn run<R: Read, O: Out, E: Out>(
     errors: &mut E,
     task: Task,
 ) -> Ending
-    ensures { Obeys task result (O.gone output.old) (O.gone output.new) }
+    ensures { ObeysOn task (R.remaining input.old) result (O.gone output.old) (O.gone output.new) }
 {
-    let text = match read_up_to(alloc, input, TOO_MANY_BYTES) {
-        Ok(text) => text,
-        Err(fault) => return Ending::from(fault),
-    };
-    match task {
-        Task::Json => telling::tell_json(alloc, output, errors, text.as_slice()),
-        Task::Words => telling::tell_words(alloc, output, errors, text.as_slice()),
-        Task::Faults { strict } => telling::tell_faults(alloc, output, strict, text.as_slice()),
+    match read_up_to(alloc, input, TOO_MANY_BYTES) {
+        Ok(text) => run_with(alloc, text.as_slice(), output, errors, task),
+        Err(fault) => Ending::from(fault),
     }
 }
 
