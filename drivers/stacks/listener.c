@@ -179,8 +179,7 @@ static void use(BOOLEAN comes_first)
     if (!listener)
         return;
     PEXTENSION ext = listener->DeviceObject->DeviceExtension;
-    LARGE_INTEGER limit = Milliseconds(5000);
-    WDM_CHECK(KeWaitForSingleObject(&ext->Heard, Executive, KernelMode, FALSE, &limit) == STATUS_SUCCESS);
+    KeWaitForSingleObject(&ext->Heard, Executive, KernelMode, FALSE, NULL);
     WdmUnloadDriver(listener);
     WdmSend(IoGetAttachedDevice(bottom), IRP_MJ_PNP, IRP_MN_REMOVE_DEVICE, 0);
     IoDeleteDevice(bottom);
