@@ -274,10 +274,11 @@ IsFaulty Differs = ⊤
 IsFaulty NoMemory = ⊤
 IsFaulty other = ⊥
 
--- the lines of a text say a script, and this is answered of it
+-- the lines of a text say a script, which is read from its JSON, and this is answered of it
 abbrev pub IsToldOfWords : Order → List ℕ → Option (List ℕ) → Option (List ℕ) → Ending → Type 0
 IsToldOfWords order text old new ending =
-    (script : ScriptParts) × IsSaidIn text script × Answers script order order.task old new ending
+    (script : ScriptParts) × (json : List ℕ) × IsSaidIn text script × ReadsScript (Ok script) json
+    × Answers script order order.task old new ending
 
 -- what the program does with words in its input: it gives up, or tells their faults; or it answers what is asked of the
 -- script that they say

@@ -1,7 +1,6 @@
 -- Texts in one line, put one behind the other.
-use Rattle.std.proofs.Common.{ℕ, ◌≡◌, ◌<◌, ◌≤◌, ◌++◌, ◌+◌, ◌%◌, ◌^◌, mod-lt, List, [], ◌∷◌, Bool, true, false, ◌&&◌, arith, length, get_or, sym, subst, ap, ◌∙◌, refl, append-nil}
+use Rattle.std.proofs.Common.{ℕ, ◌≡◌, ◌<◌, ◌++◌, ◌+◌, ◌%◌, ◌^◌, mod-lt, List, [], ◌∷◌, Bool, true, ◌&&◌, arith, get_or, sym, ap, ◌∙◌, append-nil}
 use Rattle.std.specs.List.{list_all, All}
-use Rattle.std.specs.Char.{is_ascii_control}
 use Rattle.std.specs.Fmt.{decimal}
 use Rattle.std.proofs.Math.Utf8.{encode}
 use Rattle.std.proofs.lemmas.Fmt.{decimal_by_steps}

@@ -1,5 +1,5 @@
 -- Where a part of a script stands in its text: a value under a key, or a member of a list there.
-use Rattle.std.specs.Prelude.{ℕ, ◌<◌, ◌≤◌, ◌+◌, ◌-◌, ◌==◌, ◌&&◌, ◌||◌, if◌then◌else◌, nat_le, Bool, true, false, not, List, fold}
+use Rattle.std.specs.Prelude.{ℕ, ◌<◌, ◌≤◌, ◌+◌, ◌-◌, ◌==◌, ◌&&◌, ◌||◌, if◌then◌else◌, nat_le, Bool, false, not, List, fold}
 use Rattle.irp_text_faults.specs.Places.{cut}
 use Rattle.irp_text_faults.specs.Spelling.{says}
 use Rattle.irp_text_faults.specs.declared.reading.Reading.{Reading}

@@ -1,4 +1,4 @@
-use Rattle.std.proofs.Common.{rules, ◌≡◌, ◌<◌, ◌≤◌, ℕ, ◌+◌, length, List, sym, ap, ◌∙◌, arith, get_or, take}
+use Rattle.std.proofs.Common.{rules, ◌≡◌, ◌<◌, ℕ, ◌+◌, length, List, sym, ap, ◌∙◌, get_or, take}
 use Rattle.std.proofs.lemmas.List.Sums.{fold_more}
 use Rattle.irp_text_faults.specs.Reading as spec
 use Rattle.irp_text_faults.specs.declared.reading.Reading.{Reading}
