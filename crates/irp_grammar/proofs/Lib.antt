@@ -1,8 +1,10 @@
 pub mod Adding
 mod Deciding
-pub mod Further
+mod Finding
+mod Giving
 mod Mapped
 mod PieceWords
 mod Placing
 mod Taking
+mod Valued
 pub mod Worded

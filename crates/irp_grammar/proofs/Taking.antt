@@ -4,7 +4,8 @@ use Rattle.std.proofs.lemmas.List.Elements.{filter-append}
 use Rattle.irp_script_reader.specs.declared.refusal.Section.{Section}
 use Rattle.irp_script_reader.specs.declared.refusal.Section.TheVariants as section
 use Rattle.irp_grammar.specs.Lines.{lines_of, next_of}
-use Rattle.irp_grammar.specs.Reading.{IsReadFrom, IsTaken, IsTakenIf, Line, Members, SayLines, SaySoFar, SaysLine, SaysMember, SaysStep, SaysWords, added, heading, is_setup, members_of, nothing_said, of_others, of_steps, placed, steps_last, those, with_count}
+use Rattle.irp_grammar.specs.Reading.{IsReadFrom, IsTaken, IsTakenIf, Line, Members, SayLines, SaySoFar, SaysAct, SaysBehind, SaysLine, SaysMember, SaysStack, SaysStep, SaysWords, added, heading, is_setup, members_of, nothing_said, of_others, of_steps, placed, steps_last, those, with_count, with_given}
+use Rattle.irp_grammar.specs.Naming.{Given}
 use Rattle.irp_grammar.specs.declared.said.Said.{Said}
 use Rattle.irp_grammar.specs.declared.step_line.StepLine.{StepLine}
 
@@ -13,41 +14,50 @@ use Rattle.irp_grammar.specs.declared.step_line.StepLine.{StepLine}
 abbrev pub Keeps : Members → Members → Type 0
 Keeps old new = new.faults ≡ old.faults
 
-steps_keep : (b : Bool) (more : List StepLine) (old new : Members) → new ≡ added b more old → Keeps old new
-steps_keep true more old new is = ap (λ (some : Members). some.faults) is
-steps_keep false more old new is = ap (λ (some : Members). some.faults) is
+steps_keep : (b : Bool) (more : List StepLine) (given : Given) (old new : Members) → new ≡ added b more (with_given given old)
+    → Keeps old new
+steps_keep true more given old new is = ap (λ (some : Members). some.faults) is
+steps_keep false more given old new is = ap (λ (some : Members). some.faults) is
 
-step_keeps : (its : Section) (words : List (List ℕ)) (old new : Members) → SaysStep its words old new → Keeps old new
-step_keeps its words old new (head, inl says) = steps_keep (is_setup its) (says.0 ∷ []) old new says.2
-step_keeps its words old new (head, inr says) = steps_keep (is_setup its) says.1.more old new says.1.is
+step_keeps : (its : Section) (words rest : List (List ℕ)) (old new : Members) → SaysStep its words rest old new → Keeps old new
+step_keeps its words rest old new says = by says.7
+  where
+    by : SaysAct its says.3 says.4 says.1 rest (with_given says.2 old) new ⊎ SaysStack its says.1 (with_given says.2 old) new
+        → Keeps old new
+    by (inl one) = steps_keep (is_setup its) (one.0 ∷ []) one.1 old new one.4
+    by (inr some) = steps_keep (is_setup its) some.1.more some.1.given old new some.1.is
 
-count_keeps : (its : Section) (number : ℕ) (old new : Members) → new ≡ with_count its number old → Keeps old new
-count_keeps section.Seats number old new is = ap (λ (some : Members). some.faults) is
-count_keeps section.Locks number old new is = ap (λ (some : Members). some.faults) is
-count_keeps section.Slots number old new is = ap (λ (some : Members). some.faults) is
-count_keeps section.Top number old new is = ap (λ (some : Members). some.faults) is
-count_keeps section.Completions number old new is = ap (λ (some : Members). some.faults) is
-count_keeps section.Cancels number old new is = ap (λ (some : Members). some.faults) is
-count_keeps section.Dispatches number old new is = ap (λ (some : Members). some.faults) is
-count_keeps section.Drivers number old new is = ap (λ (some : Members). some.faults) is
-count_keeps section.Setup number old new is = ap (λ (some : Members). some.faults) is
-count_keeps section.Steps number old new is = ap (λ (some : Members). some.faults) is
+count_keeps : (its : Section) (number : ℕ) (given : Given) (old new : Members) → new ≡ with_count its number (with_given given old) → Keeps old new
+count_keeps section.Seats number given old new is = ap (λ (some : Members). some.faults) is
+count_keeps section.Locks number given old new is = ap (λ (some : Members). some.faults) is
+count_keeps section.Slots number given old new is = ap (λ (some : Members). some.faults) is
+count_keeps section.Top number given old new is = ap (λ (some : Members). some.faults) is
+count_keeps section.Completions number given old new is = ap (λ (some : Members). some.faults) is
+count_keeps section.Cancels number given old new is = ap (λ (some : Members). some.faults) is
+count_keeps section.Dispatches number given old new is = ap (λ (some : Members). some.faults) is
+count_keeps section.Drivers number given old new is = ap (λ (some : Members). some.faults) is
+count_keeps section.Setup number given old new is = ap (λ (some : Members). some.faults) is
+count_keeps section.Steps number given old new is = ap (λ (some : Members). some.faults) is
 
-member_keeps : (its : Section) (words : List (List ℕ)) (old new : Members) → SaysMember its words old new → Keeps old new
-member_keeps section.Completions words old new says = ap (λ (some : Members). some.faults) says.4
-member_keeps section.Cancels words old new says = ap (λ (some : Members). some.faults) says.4
-member_keeps section.Dispatches words old new says = ap (λ (some : Members). some.faults) says.4
-member_keeps section.Drivers words old new says = ap (λ (some : Members). some.faults) says.1
-member_keeps section.Setup words old new says = step_keeps section.Setup words old new says
-member_keeps section.Steps words old new says = step_keeps section.Steps words old new says
-member_keeps section.Top words old new says = count_keeps says.0 says.1 old new says.4
-member_keeps section.Seats words old new says = count_keeps says.0 says.1 old new says.4
-member_keeps section.Locks words old new says = count_keeps says.0 says.1 old new says.4
-member_keeps section.Slots words old new says = count_keeps says.0 says.1 old new says.4
+member_keeps : (its : Section) (words rest : List (List ℕ)) (old new : Members) → SaysMember its words rest old new → Keeps old new
+member_keeps section.Completions words rest old new says = ap (λ (some : Members). some.faults) says.5
+member_keeps section.Cancels words rest old new says = ap (λ (some : Members). some.faults) says.5
+member_keeps section.Dispatches words rest old new says = ap (λ (some : Members). some.faults) says.6
+member_keeps section.Drivers words rest old new says = ap (λ (some : Members). some.faults) says.5
+member_keeps section.Setup words rest old new says = step_keeps section.Setup words rest old new says
+member_keeps section.Steps words rest old new says = step_keeps section.Steps words rest old new says
+member_keeps section.Top words rest old new says = count_keeps says.0 says.1 says.2 old new says.5
+member_keeps section.Seats words rest old new says = count_keeps says.0 says.1 says.2 old new says.5
+member_keeps section.Locks words rest old new says = count_keeps says.0 says.1 says.2 old new says.5
+member_keeps section.Slots words rest old new says = count_keeps says.0 says.1 says.2 old new says.5
+
+behind_keeps : (headed : Option Section) (its : Section) (words rest : List (List ℕ)) (old new : Members)
+    → SaysBehind headed its words rest old new → Keeps old new
+behind_keeps (Some headed) its words rest old new says = ap (λ (some : Members). some.faults) says.1
+behind_keeps None its words rest old new says = member_keeps its words rest old new says
 
 words_keep : (headed : Option Section) (its : Section) (words : List (List ℕ)) (old new : Members) → SaysWords headed its words old new → Keeps old new
-words_keep (Some headed) its words old new says = ap (λ (some : Members). some.faults) says.1
-words_keep None its words old new says = member_keeps its words old new says
+words_keep headed its words old new says = behind_keeps headed its words says.0 old new says.1
 
 line_keeps : (line : Line) (old new : Members) → SaysLine line old new → Keeps old new
 line_keeps line old new says = words_keep (heading (next_of line.1)) line.0 line.1 old new says

@@ -1,6 +1,10 @@
 pub mod Faults
+pub mod Heads
 pub mod Lines
+pub mod Naming
 pub mod Numbers
 pub mod Reading
+pub mod Routines
 pub mod Saying
 pub mod Showing
+pub mod Values

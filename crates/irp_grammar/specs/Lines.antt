@@ -1,5 +1,5 @@
 -- The lines of a text, and the words of a line.
-use Rattle.std.specs.Prelude.{ℕ, ◌≡◌, ◌==◌, Bool, true, false, List, [], ◌∷◌, drop, map, slice_get, unwrap_or, Option}
+use Rattle.std.specs.Prelude.{ℕ, ◌==◌, Bool, true, false, List, [], ◌∷◌, map, slice_get, unwrap_or, Option}
 use Rattle.std.specs.List.{before_first, filter, flat_map, slice_split}
 use Rattle.irp_grammar.specs.declared.{cursor.Cursor.Cursor, cursor.Word.Word}
 
@@ -51,8 +51,3 @@ first_of words = slice_get words 0
 
 abbrev pub next_of : List (List ℕ) → List ℕ
 next_of words = unwrap_or (first_of words) []
-
--- words that are left, once some more were taken
-pub record IsFurther (old new : List (List ℕ)) : Type 0 where
-  pub count : ℕ
-  pub is : new ≡ drop count old

@@ -1,9 +1,8 @@
 -- Numbers as words have them: in decimal digits, or in hexadecimal ones behind `0x`.
-use Rattle.std.specs.Prelude.{ℕ, ◌≡◌, ◌==◌, ◌&&◌, Bool, true, false, drop, if◌then◌else◌, List, slice_get}
+use Rattle.std.specs.Prelude.{ℕ, ◌==◌, ◌&&◌, Bool, false, drop, if◌then◌else◌, List, slice_get}
 use Rattle.std.specs.Char.{is_ascii_digit}
 use Rattle.std.specs.Option.{option_map_or}
 use Rattle.std.specs.Str.Parse.{digits_value, without_leading_plus}
-use Rattle.irp_grammar.specs.Lines.{next_of}
 
 -- a word is meant as a number: it begins with a digit
 abbrev pub begins_with_digit : List ℕ → Bool
@@ -20,7 +19,3 @@ numeral radix digits = digits_value radix (without_leading_plus digits)
 abbrev pub number_in : List ℕ → ℕ
 number_in word =
     if has_byte word 0 48 && has_byte word 1 120 then numeral 16 (drop 2 word) else numeral 10 word
-
--- this is the number that the next word is, where that begins with a digit; else it has a name
-abbrev pub IsNumberAt : List (List ℕ) → ℕ → Type 0
-IsNumberAt words number = begins_with_digit (next_of words) ≡ true → number ≡ number_in (next_of words)

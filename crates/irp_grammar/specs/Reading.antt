@@ -1,25 +1,35 @@
 -- What a text in words says, line by line, in the sections of docs/WORDS.md: headings, counts, and the members of lists.
-use Rattle.std.specs.Prelude.{ℕ, ◌≡◌, ◌≢◌, ◌⊎◌, ◌-◌, ◌==◌, Bool, true, false, if◌then◌else◌, MatchBool, List, [], ◌∷◌, ◌++◌, codes, drop, length, min, slice_index, not, unwrap_or, Option, Some, None}
+use Rattle.std.specs.Prelude.{ℕ, ◌≡◌, ◌≢◌, ◌⊎◌, Bool, true, false, if◌then◌else◌, MatchBool, List, [], ◌∷◌, ◌++◌, codes, drop, length, min, not, take, unwrap_or, Option, Some, None}
 use Rattle.std.specs.List.{filter}
 use Rattle.std.proofs.Common.{bytes_eq}
-use Rattle.irp_types.specs.declared.{answer.CancelAnswer.CancelAnswer, names.DispatchId.DispatchId}
-use Rattle.irp_types.specs.declared.answer.CancelAnswer.TheVariants as cancel
+use Rattle.irp_types.specs.Rules.{count_of_rule}
+use Rattle.irp_types.specs.declared.{answer.CancelAnswer.CancelAnswer, names.DispatchId.DispatchId, routine.Known.Known, routine.Rule.Rule}
+use Rattle.irp_types.specs.declared.routine.Rule.TheVariants as rule
 use Rattle.irp_forms.specs.Names.{first_named, rule_name, rules}
-use Rattle.irp_forms.specs.Steps.{act_named}
-use Rattle.irp_names.specs.Plans.{kind_named}
+use Rattle.irp_forms.specs.Steps.{act_named, keys_of}
+use Rattle.irp_forms.specs.declared.{key_parts.Part.Part, step_names.ActKind.ActKind}
+use Rattle.irp_forms.specs.declared.key_parts.Part.TheVariants as part
+use Rattle.irp_forms.specs.declared.step_names.ActKind.TheVariants as act
+use Rattle.irp_names.specs.Plans.{kind_named, parts_of}
+use Rattle.irp_script_reader.specs.declared.condition.Condition.{Condition}
 use Rattle.irp_script_reader.specs.declared.refusal.Section.{Section}
 use Rattle.irp_script_reader.specs.declared.refusal.Section.TheVariants as section
 use Rattle.irp_script_reader.specs.declared.script.{CompletionRoutine.CompletionRoutine, ScriptParts.ScriptParts}
+use Rattle.irp_grammar.specs.Heads.{TakesCondition, TakesSeat}
 use Rattle.irp_grammar.specs.Lines.{lines_of, next_of}
-use Rattle.irp_grammar.specs.Numbers.{IsNumberAt, begins_with_digit, number_in}
+use Rattle.irp_grammar.specs.Naming.{Given, TakesName, label_texts, namings, one_more, with_name, with_names, with_routine}
+use Rattle.irp_grammar.specs.Numbers.{begins_with_digit, number_in}
+use Rattle.irp_grammar.specs.Routines.{TakesBehaviours, TakesCancel, TakesTable}
 use Rattle.irp_grammar.specs.Saying.{Says}
+use Rattle.irp_grammar.specs.Values.{AreKeyValues, ArePartValues}
 use Rattle.irp_grammar.specs.declared.{cursor.WordsFault.WordsFault, said.Said.Said}
 use Rattle.irp_grammar.specs.declared.step_line.{PlanLine.PlanLine, StepLine.StepLine}
 
 -- ---- what is said so far
 
--- the counts and the lists that lines say, and the lines' faults
+-- the names that lines have given, the counts and the lists that they say, and their faults
 pub record Members : Type 0 where
+  pub given : Given
   pub form : Option ℕ
   pub seats : Option ℕ
   pub locks : Option ℕ
@@ -32,9 +42,19 @@ pub record Members : Type 0 where
   pub steps : List StepLine
   pub faults : List WordsFault
 
+abbrev pub given_of : Said → Given
+given_of said =
+    record {
+      names = namings said.names;
+      labels = label_texts said.names;
+      devices = said.devices;
+      counts = said.counts;
+    }
+
 abbrev pub members_of : Said → Members
 members_of said =
     record {
+      given = given_of said;
       form = said.form;
       seats = said.seats;
       locks = said.locks;
@@ -48,9 +68,21 @@ members_of said =
       faults = said.faults.items;
     }
 
+-- other names are given
+abbrev pub with_given : Given → Members → Members
+with_given given old = record old { given = given }
+
+-- names are given, and nothing else is said
+abbrev pub OnlyGives : Said → Said → Type 0
+OnlyGives old new = members_of new ≡ with_given (given_of new) (members_of old)
+
+abbrev pub no_routines : Known
+no_routines = record { watch = 0; change = 0; keeper = 0; keep_on_error = 0; free = 0; cancel = 0 }
+
 abbrev pub nothing_said : Members
 nothing_said =
     record {
+      given = record { names = []; labels = []; devices = 0; counts = no_routines };
       form = None;
       seats = None;
       locks = None;
@@ -84,52 +116,59 @@ count_named word =
     else (if bytes_eq word (codes "locks") then Some section.Locks
     else (if bytes_eq word (codes "slots") then Some section.Slots else None)))
 
--- a name stands before a colon, with which a line may begin; these words are what is behind it
-abbrev pub ends_in_colon : List ℕ → Bool
-ends_in_colon word = slice_index word (length word - 1) == 58
+-- ---- lines, each with the words that it leaves
 
-abbrev pub IsBehindName : List (List ℕ) → List (List ℕ) → Type 0
-IsBehindName words rest =
-    (rest ≡ words) ⊎ ((ends_in_colon (next_of words) ≡ true) × (rest ≡ drop 1 words))
+-- a completion routine, with the rule that the line names, the next of that rule
+abbrev pub with_one_more : Rule → Given → Given
+with_one_more its old = record old { counts = with_routine its old.counts }
 
--- ---- lines
+abbrev pub TakesRule : List (List ℕ) → List (List ℕ) → Rule → Given → Given → Type 0
+TakesRule words rest its old new =
+    (behind : List (List ℕ)) × (named : Given)
+    × TakesName part.Routine its (count_of_rule old.counts its) words behind old named
+    × (first_named rule_name rules (next_of behind) ≡ Some its) × (rest ≡ drop 1 behind) × (new ≡ with_one_more its named)
 
--- a completion routine, with the rule that the line names
-abbrev pub SaysCompletion : List (List ℕ) → Members → Members → Type 0
-SaysCompletion words old new =
-    (routine : CompletionRoutine) × (rest : List (List ℕ)) × IsBehindName words rest
-    × (first_named rule_name rules (next_of rest) ≡ Some routine.rule)
-    × (new ≡ record old { completions = old.completions ++ routine ∷ [] })
+abbrev pub SaysCompletion : List (List ℕ) → List (List ℕ) → Members → Members → Type 0
+SaysCompletion words rest old new =
+    (routine : CompletionRoutine) × (behind : List (List ℕ)) × (given : Given)
+    × TakesRule words behind routine.rule old.given given
+    × TakesBehaviours given.names routine.rule behind rest routine.on_ok routine.on_err
+    × (new ≡ record old { given = given; completions = old.completions ++ routine ∷ [] })
+
+-- a member of a list may have a name, which stands for its place in that list
+abbrev pub place_after : {T : Type 0} → List T → ℕ
+place_after before = min (length before) 4294967295
+
+abbrev pub NamesPlace : Part → ℕ → List (List ℕ) → List (List ℕ) → Given → Given → Type 0
+NamesPlace its place words rest old new = TakesName its rule.Watch place words rest old new
 
 -- a cancel routine, which finishes or leaves as the line says
-abbrev pub cancel_word : CancelAnswer → List ℕ
-cancel_word (cancel.Finish information) = codes "finish"
-cancel_word cancel.Leave = codes "leave"
+abbrev pub SaysCancel : List (List ℕ) → List (List ℕ) → Members → Members → Type 0
+SaysCancel words rest old new =
+    (answer : CancelAnswer) × (behind : List (List ℕ)) × (given : Given)
+    × NamesPlace part.Cancel (place_after old.cancels) words behind old.given given
+    × TakesCancel given.names behind rest answer
+    × (new ≡ record old { given = given; cancels = old.cancels ++ answer ∷ [] })
 
-abbrev pub IsInformation : List (List ℕ) → CancelAnswer → Type 0
-IsInformation words (cancel.Finish information) = IsNumberAt words information
-IsInformation words cancel.Leave = Unit {0}
+-- a dispatch, with the kind of plan that the line names, and the values behind that
+abbrev pub TakesPlan : List (List ℕ) → List (List ℕ) → PlanLine → Given → Given → Type 0
+TakesPlan words rest plan old new =
+    (kind_named (next_of words) ≡ Some plan.kind) × ArePartValues (parts_of plan.kind) (drop 1 words) rest plan.values old new
 
-abbrev pub IsAnswer : List (List ℕ) → CancelAnswer → Type 0
-IsAnswer words answer = (next_of words ≡ cancel_word answer) × IsInformation (drop 1 words) answer
+abbrev pub SaysDispatch : List (List ℕ) → List (List ℕ) → Members → Members → Type 0
+SaysDispatch words rest old new =
+    (plan : PlanLine) × (behind : List (List ℕ)) × (named given : Given)
+    × NamesPlace part.Dispatch (place_after old.dispatches) words behind old.given named
+    × TakesPlan behind rest plan named given
+    × (new ≡ record old { given = given; dispatches = old.dispatches ++ plan ∷ [] })
 
-abbrev pub SaysCancel : List (List ℕ) → Members → Members → Type 0
-SaysCancel words old new =
-    (answer : CancelAnswer) × (rest : List (List ℕ)) × IsBehindName words rest
-    × IsAnswer rest answer
-    × (new ≡ record old { cancels = old.cancels ++ answer ∷ [] })
-
--- a dispatch, with the kind of plan that the line names
-abbrev pub SaysDispatch : List (List ℕ) → Members → Members → Type 0
-SaysDispatch words old new =
-    (plan : PlanLine) × (rest : List (List ℕ)) × IsBehindName words rest
-    × (kind_named (next_of rest) ≡ Some plan.kind)
-    × (new ≡ record old { dispatches = old.dispatches ++ plan ∷ [] })
-
--- a driver
-abbrev pub SaysDriver : Members → Members → Type 0
-SaysDriver old new =
-    (table : List (ℕ × DispatchId)) × (new ≡ record old { drivers = old.drivers ++ table ∷ [] })
+-- a driver, with its table
+abbrev pub SaysDriver : List (List ℕ) → List (List ℕ) → Members → Members → Type 0
+SaysDriver words rest old new =
+    (table : List (ℕ × DispatchId)) × (behind : List (List ℕ)) × (given : Given)
+    × NamesPlace part.Driver (place_after old.drivers) words behind old.given given
+    × TakesTable given.names behind rest table
+    × (new ≡ record old { given = given; drivers = old.drivers ++ table ∷ [] })
 
 -- more steps, of `setup` or of `steps`
 abbrev pub is_setup : Section → Bool
@@ -143,22 +182,63 @@ added false more old = record old { steps = old.steps ++ more }
 abbrev pub with_steps : Section → List StepLine → Members → Members
 with_steps its more old = added (is_setup its) more old
 
-pub record AddsSteps (its : Section) (old new : Members) : Type 0 where
-  pub more : List StepLine
-  pub is : new ≡ with_steps its more old
+-- a device that a step creates may have a name behind `as`: it is the next one
+abbrev pub IsDeviceNamed : Bool → List (List ℕ) → List (List ℕ) → Given → Given → Type 0
+IsDeviceNamed true words rest old new =
+    (next_of words ≡ codes "as")
+    × (rest ≡ drop 1 (drop 1 words)) × (new ≡ with_name part.Device rule.Watch (next_of (drop 1 words)) old.devices old)
+IsDeviceNamed false words rest old new = (rest ≡ words) × (new ≡ old)
 
--- a step, whose word stands on the line behind its head; or a stack, which is more than one
-abbrev pub SaysAct : Section → List (List ℕ) → Members → Members → Type 0
-SaysAct its words old new =
-    (step : StepLine) × (act_named (next_of words) ≡ Some step.act) × (new ≡ with_steps its (step ∷ []) old)
+abbrev pub TakesDeviceName : List (List ℕ) → List (List ℕ) → Given → Given → Type 0
+TakesDeviceName words rest old new = IsDeviceNamed (bytes_eq (next_of words) (codes "as")) words rest old new
+
+abbrev pub TakesNameOf : ActKind → List (List ℕ) → List (List ℕ) → Given → Given → Type 0
+TakesNameOf act.CreateDevice words rest old new = TakesDeviceName words rest old new
+TakesNameOf others words rest old new = (rest ≡ words) × (new ≡ old)
+
+abbrev pub with_device : ActKind → Given → Given
+with_device act.CreateDevice old = record old { devices = one_more old.devices }
+with_device others old = old
+
+-- a step, whose word stands on the line behind its head, and behind that its keys with their values
+abbrev pub TakesStep : List (List ℕ) → List (List ℕ) → StepLine → Given → Given → Type 0
+TakesStep words rest step old new =
+    (behind : List (List ℕ)) × (valued named : Given) × (act_named (next_of words) ≡ Some step.act)
+    × AreKeyValues (keys_of step.act) (drop 1 words) behind step.values old valued
+    × TakesNameOf step.act behind rest valued named × (new ≡ with_device step.act named)
+
+abbrev pub IsHeaded : ℕ → Option Condition → StepLine → Type 0
+IsHeaded seat condition step = (step.seat ≡ seat) × (step.condition ≡ condition)
+
+abbrev pub SaysAct : Section → ℕ → Option Condition → List (List ℕ) → List (List ℕ) → Members → Members → Type 0
+SaysAct its seat condition words rest old new =
+    (step : StepLine) × (given : Given) × IsHeaded seat condition step × TakesStep words rest step old.given given
+    × (new ≡ with_steps its (step ∷ []) (with_given given old))
+
+-- a stack, which is more than one step
+pub record AddsSteps (its : Section) (old new : Members) : Type 0 where
+  pub given : Given
+  pub more : List StepLine
+  pub is : new ≡ with_steps its more (with_given given old)
 
 abbrev pub SaysStack : Section → List (List ℕ) → Members → Members → Type 0
-SaysStack its words old new =
-    (next_of words ≡ codes "stack") × AddsSteps its old new
+SaysStack its words old new = (next_of words ≡ codes "stack") × AddsSteps its old new
 
-abbrev pub SaysStep : Section → List (List ℕ) → Members → Members → Type 0
-SaysStep its words old new =
-    (head : ℕ) × (SaysAct its (drop head words) old new ⊎ SaysStack its (drop head words) old new)
+-- the line of a step, which may have a name in `steps`, and has a seat and what it hangs on before its word
+abbrev pub TakesStepName : Section → ℕ → List (List ℕ) → List (List ℕ) → Given → Given → Type 0
+TakesStepName section.Steps place words rest old new = NamesPlace part.Step place words rest old new
+TakesStepName others place words rest old new = (rest ≡ words) × (new ≡ old)
+
+abbrev pub TakesHead : List (List ℕ) → List (List ℕ) → ℕ → Option Condition → Given → Type 0
+TakesHead words rest seat condition given =
+    (behind : List (List ℕ)) × TakesSeat given.names words behind seat × TakesCondition given.names behind rest condition
+
+abbrev pub SaysStep : Section → List (List ℕ) → List (List ℕ) → Members → Members → Type 0
+SaysStep its words rest old new =
+    (behind head : List (List ℕ)) × (given : Given) × (seat : ℕ) × (condition : Option Condition)
+    × TakesStepName its (place_after old.steps) words behind old.given given
+    × TakesHead behind head seat condition given
+    × (SaysAct its seat condition head rest (with_given given old) new ⊎ SaysStack its head (with_given given old) new)
 
 -- the form, or a count
 abbrev pub with_count : Section → ℕ → Members → Members
@@ -167,42 +247,50 @@ with_count section.Locks number old = record old { locks = Some number }
 with_count section.Slots number old = record old { slots = Some number }
 with_count others number old = record old { form = Some number }
 
--- a count in digits, or as many as there are names; and the form that a word is
-abbrev pub IsCount : List (List ℕ) → ℕ → Type 0
-IsCount words number =
-    MatchBool (begins_with_digit (next_of words)) (number ≡ number_in (next_of words))
-    (number ≡ min (length words) 4294967295)
+-- a count in digits; or as many as there are names, which stand for the numbers from 0 on
+abbrev pub TakesCount : Part → List (List ℕ) → List (List ℕ) → ℕ → Given → Given → Type 0
+TakesCount its words rest number old new =
+    MatchBool (begins_with_digit (next_of words))
+    ((number ≡ number_in (next_of words)) × (rest ≡ drop 1 words) × (new ≡ old))
+    ((number ≡ min (length words) 4294967295) × (new ≡ with_names its 0 (take number words) old) × (rest ≡ drop number words))
 
 unfoldable pub form_in : List ℕ → Option ℕ
 form_in word =
     if bytes_eq word (codes "1") then Some 1
     else (if bytes_eq word (codes "2") then Some 2 else (if bytes_eq word (codes "4") then Some 4 else None))
 
-abbrev pub IsNumberOf : Section → List (List ℕ) → ℕ → Type 0
-IsNumberOf section.Seats words number = IsCount words number
-IsNumberOf section.Locks words number = IsCount words number
-IsNumberOf section.Slots words number = IsCount words number
-IsNumberOf others words number = form_in (next_of words) ≡ Some number
+abbrev pub TakesForm : List (List ℕ) → List (List ℕ) → ℕ → Given → Given → Type 0
+TakesForm words rest number old new = (form_in (next_of words) ≡ Some number) × (rest ≡ drop 1 words) × (new ≡ old)
 
-abbrev pub SaysCount : List (List ℕ) → Members → Members → Type 0
-SaysCount words old new =
-    (its : Section) × (number : ℕ) × (count_named (next_of words) ≡ Some its) × IsNumberOf its (drop 1 words) number
-    × (new ≡ with_count its number old)
+abbrev pub TakesNumberOf : Section → List (List ℕ) → List (List ℕ) → ℕ → Given → Given → Type 0
+TakesNumberOf section.Seats words rest number old new = TakesCount part.Seat words rest number old new
+TakesNumberOf section.Locks words rest number old new = TakesCount part.Lock words rest number old new
+TakesNumberOf section.Slots words rest number old new = TakesCount part.Slot words rest number old new
+TakesNumberOf others words rest number old new = TakesForm words rest number old new
+
+abbrev pub SaysCount : List (List ℕ) → List (List ℕ) → Members → Members → Type 0
+SaysCount words rest old new =
+    (its : Section) × (number : ℕ) × (given : Given) × (count_named (next_of words) ≡ Some its)
+    × TakesNumberOf its (drop 1 words) rest number old.given given × (new ≡ with_count its number (with_given given old))
 
 -- a line that is no heading, in its section
-abbrev pub SaysMember : Section → List (List ℕ) → Members → Members → Type 0
-SaysMember section.Completions words old new = SaysCompletion words old new
-SaysMember section.Cancels words old new = SaysCancel words old new
-SaysMember section.Dispatches words old new = SaysDispatch words old new
-SaysMember section.Drivers words old new = SaysDriver old new
-SaysMember section.Setup words old new = SaysStep section.Setup words old new
-SaysMember section.Steps words old new = SaysStep section.Steps words old new
-SaysMember others words old new = SaysCount words old new
+abbrev pub SaysMember : Section → List (List ℕ) → List (List ℕ) → Members → Members → Type 0
+SaysMember section.Completions words rest old new = SaysCompletion words rest old new
+SaysMember section.Cancels words rest old new = SaysCancel words rest old new
+SaysMember section.Dispatches words rest old new = SaysDispatch words rest old new
+SaysMember section.Drivers words rest old new = SaysDriver words rest old new
+SaysMember section.Setup words rest old new = SaysStep section.Setup words rest old new
+SaysMember section.Steps words rest old new = SaysStep section.Steps words rest old new
+SaysMember others words rest old new = SaysCount words rest old new
 
--- a line that is the heading of a section, and nothing more; or a member of the section in which it stands
+-- a line that is the heading of a section; or a member of the section in which it stands: and nothing more
+abbrev pub SaysBehind : Option Section → Section → List (List ℕ) → List (List ℕ) → Members → Members → Type 0
+SaysBehind (Some headed) its words rest old new = (rest ≡ drop 1 words) × (new ≡ old)
+SaysBehind None its words rest old new = SaysMember its words rest old new
+
 abbrev pub SaysWords : Option Section → Section → List (List ℕ) → Members → Members → Type 0
-SaysWords (Some headed) its words old new = (length (drop 1 words) ≡ 0) × (new ≡ old)
-SaysWords None its words old new = SaysMember its words old new
+SaysWords headed its words old new =
+    (rest : List (List ℕ)) × SaysBehind headed its words rest old new × (length rest ≡ 0)
 
 -- a section, and the words of a line that stands in it
 abbrev pub Line : Type 0

@@ -1,7 +1,6 @@
 -- The script that lines say, and what is told of it.
 use Rattle.std.specs.Prelude.{◌≡◌, ◌==◌, ℕ, Bool, true, false, List, [], ◌∷◌, ◌++◌, map, take, Option, Some, None, is_some, Ok, Err}
 use Rattle.std.specs.Prelude.{if◌then◌else◌, string_bytes}
-use Rattle.std.specs.Borrow.{Bor}
 use Rattle.std.specs.List.{list_any}
 use Rattle.std.specs.Option.{unwrap_or}
 use Rattle.irp_types.specs.declared.answer.Plan.{Plan}
@@ -25,6 +24,7 @@ use Rattle.irp_script_reader.specs.declared.script.ScriptForm.TheVariants as for
 use Rattle.irp_names.specs.declared.plan_kinds.PlanKind.TheVariants as kind
 use Rattle.irp_forms.specs.declared.step_names.ActKind.{ActKind}
 use Rattle.irp_forms.specs.declared.step_names.ActKind.TheVariants as act_kind
+use Rattle.irp_grammar.specs.Naming.{label_texts}
 use Rattle.irp_grammar.specs.declared.step_line.{PlanLine.PlanLine, StepLine.StepLine, Value.Value}
 use Rattle.irp_grammar.specs.declared.step_line.Value.TheVariants as value
 use Rattle.irp_grammar.specs.declared.{cursor.WordsFault.WordsFault, law.Told.Told, law.Untold.Untold, said.Said.Said}
@@ -148,7 +148,7 @@ plan_line (plan.ForwardPend set) = record { kind = kind.ForwardPend; values = si
 
 -- the texts of the labels that lines name, in the order in which they first name them
 abbrev pub labels_of : Said → List (List ℕ)
-labels_of said = map (λ (label : Bor (List ℕ)). label.now) said.names.labels.items
+labels_of said = label_texts said.names
 
 -- the script is what the lines say, member by member in order; one seat and one lock where they say nothing of them
 pub record Says (said : Said) (script : ScriptParts) : Type 0 where

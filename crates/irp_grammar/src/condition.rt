@@ -1,8 +1,10 @@
 //! What a step hangs on, as its line says it and as JSON has it. Source: this project's own format (docs/WORDS.md,
 //! docs/FORMATS.md).
 
-ghost use Rattle.std.specs.Prelude.{OnSome};
-ghost use Rattle.irp_grammar.specs.Lines.{IsFurther, ahead};
+ghost use Rattle.std.specs.Prelude.{◌≡◌, IfSome, map};
+ghost use Rattle.irp_grammar.specs.Heads as spec;
+ghost use Rattle.irp_grammar.specs.Lines.{ahead};
+ghost use Rattle.irp_grammar.specs.Reading.{given_of};
 
 use crate::cursor::Cursor;
 use crate::said::Said;
@@ -12,8 +14,11 @@ use irp_names::Sink;
 use irp_script_reader::{AnswerWord, Condition, ExpectedAnswer};
 use irp_types::{CancelId, Refusal, Status};
 
+/// An answer that has no value, behind its word.
+pub type AnswerRow = (&'static str, ExpectedAnswer);
+
 /// The words of the answers that have no value.
-pub static ANSWERS: [(&str, ExpectedAnswer); 20] = [
+static ANSWERS: [AnswerRow; 20] = [
     ("success", ExpectedAnswer::Success),
     ("refused", ExpectedAnswer::AnyRefusal),
     ("none", ExpectedAnswer::Previous(None)),
@@ -42,12 +47,32 @@ pub static ANSWERS: [(&str, ExpectedAnswer); 20] = [
     ("no_token", ExpectedAnswer::Word(AnswerWord::NoToken)),
 ];
 
-/// The answer that a word names.
-fn answer_named(word: &str) -> Option<ExpectedAnswer> {
-    for (name, answer) in ANSWERS {
-        if name == word {
-            return Some(answer);
+/// Every row. No other function names the table, since a check reads it whole at each that does.
+#[tactic(auto, unfolding(crate::specs::Heads::answer_rows))]
+pub fn answers() -> &'static [AnswerRow]
+    ensures { map (λ row. (row.0.now, row.1)) result.now ≡ spec.answer_rows }
+{
+    &ANSWERS
+}
+
+/// The answer of the first of these rows that has this word.
+fn answer_among(rows: &[AnswerRow], word: &str) -> Option<ExpectedAnswer>
+    ensures { result ≡ spec.answer_under word.now (map (λ row. (row.0.now, row.1)) rows.now) }
+{
+    for row in rows {
+        if row.0 == word {
+            return Some(row.1);
         }
+    }
+    None
+}
+
+/// The answer that a word names, or the refusal.
+fn answer_named(word: &str) -> Option<ExpectedAnswer>
+    ensures { result ≡ spec.answer_named word.now }
+{
+    if let Some(answer) = answer_among(answers(), word) {
+        return Some(answer);
     }
     match named::<Refusal>(word) {
         Some(refusal) => Some(ExpectedAnswer::Refusal(refusal)),
@@ -62,21 +87,39 @@ pub fn answer_word(answer: ExpectedAnswer) -> &'static str {
         ExpectedAnswer::Refusal(refusal) => return refusal.name(),
         _ => {}
     }
-    for (name, given) in ANSWERS {
-        if given == answer {
-            return name;
+    for row in answers() {
+        if row.1 == answer {
+            return row.0;
         }
     }
     ""
 }
 
+/// Whether a word begins a step, or a stack.
+fn begins_act(text: &str) -> bool
+    ensures { result ≡ spec.begins_act text.now }
+{
+    ActKind::named(text).is_some() || text == "stack"
+}
+
+/// Whether the next words are `is`, and not `is not`.
+fn take_is(words: &mut Cursor<'_, '_>) -> Option<bool>
+    ensures { IfSome result (spec.TakesIs (ahead words.old) (ahead words.new)) }
+{
+    if !words.takes("is") {
+        return words.fails(Wanted::Is);
+    }
+    Some(!words.takes("not"))
+}
+
 impl<'a> Said<'a> {
     /// The cancel routine that the next word is, behind `routine`, or whichever: what may begin a step begins that.
     fn take_routine_or_any(&self, words: &mut Cursor<'_, '_>) -> ExpectedAnswer
-        ensures { IsFurther (ahead words.old) (ahead words.new) }
+        ensures { spec.TakesPrevious (given_of self.now).names (ahead words.old) (ahead words.new)
+            result }
     {
         let text = words.text();
-        if ActKind::named(text).is_some() || text == "stack" {
+        if begins_act(text) {
             return ExpectedAnswer::AnyRoutine;
         }
         match self.names.short(Part::Cancel, text) {
@@ -88,14 +131,11 @@ impl<'a> Said<'a> {
         }
     }
 
-    /// The answer that the next words are.
-    #[tactic(auto, using(crate::proofs::Further::further_both))]
-    fn take_expected(&self, words: &mut Cursor<'_, '_>) -> Option<ExpectedAnswer>
-        ensures { OnSome result (IsFurther (ahead words.old) (ahead words.new)) }
+    /// The answer without a value, the refusal or the status that the next word is.
+    fn take_named(&self, words: &mut Cursor<'_, '_>) -> Option<ExpectedAnswer>
+        ensures { IfSome result
+            (spec.TakesNamed (given_of self.now).names (ahead words.old) (ahead words.new)) }
     {
-        if words.takes("routine") {
-            return Some(self.take_routine_or_any(words));
-        }
         if let Some(answer) = answer_named(words.text()) {
             words.pass();
             return Some(answer);
@@ -106,15 +146,25 @@ impl<'a> Said<'a> {
         }
     }
 
-    /// What an answer is expected to be or not to be, behind the step on which another hangs.
-    #[tactic(auto, using(crate::proofs::Further::further_both))]
-    fn take_test(&self, step: u32, words: &mut Cursor<'_, '_>) -> Option<Condition>
-        ensures { OnSome result (IsFurther (ahead words.old) (ahead words.new)) }
+    /// The answer that the next words are.
+    fn take_expected(&self, words: &mut Cursor<'_, '_>) -> Option<ExpectedAnswer>
+        ensures { IfSome result
+            (spec.TakesAnswer (given_of self.now).names (ahead words.old) (ahead words.new)) }
     {
-        if !words.takes("is") {
-            return words.fails(Wanted::Is);
+        if words.takes("routine") {
+            Some(self.take_routine_or_any(words))
+        } else {
+            self.take_named(words)
         }
-        let wanted = !words.takes("not");
+    }
+
+    /// What a step hangs on, behind `if`: an earlier one, and what its answer is expected to be or not to be.
+    fn take_test(&self, words: &mut Cursor<'_, '_>) -> Option<Condition>
+        ensures { IfSome result
+            (spec.TakesTest (given_of self.now).names (ahead words.old) (ahead words.new)) }
+    {
+        let step = self.short(Part::Step, words)?;
+        let wanted = take_is(words)?;
         let answer = self.take_expected(words)?;
         Some(Condition {
             step,
@@ -123,23 +173,13 @@ impl<'a> Said<'a> {
         })
     }
 
-    /// What a step hangs on, behind `if`.
-    #[tactic(auto, using(crate::proofs::Further::further_both))]
-    fn take_hanging(&self, words: &mut Cursor<'_, '_>) -> Option<Condition>
-        ensures { OnSome result (IsFurther (ahead words.old) (ahead words.new)) }
-    {
-        let step = self.short(Part::Step, words)?;
-        self.take_test(step, words)
-    }
-
     /// What a step hangs on, where the next words say that it hangs on anything.
-    #[tactic(auto, using(crate::proofs::Further::further_both))]
     pub fn take_condition(&self, words: &mut Cursor<'_, '_>) -> Option<Option<Condition>>
-        ensures { OnSome result (IsFurther (ahead words.old) (ahead words.new)) }
+        ensures { IfSome result
+            (spec.TakesCondition (given_of self.now).names (ahead words.old) (ahead words.new)) }
     {
         if words.takes("if") {
-            let condition = self.take_hanging(words)?;
-            Some(Some(condition))
+            Some(Some(self.take_test(words)?))
         } else {
             Some(None)
         }

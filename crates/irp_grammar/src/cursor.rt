@@ -1,8 +1,8 @@
 //! The words of a line, taken one after the other, and what is wrong with one.
 
-ghost use Rattle.std.specs.Prelude.{◌≡◌, IfOk, IfSome, MatchBool, None, OnSome, Some, drop, length, option_map, string_bytes};
+ghost use Rattle.std.specs.Prelude.{◌≡◌, ◌≢◌, IfOk, IfSome, MatchBool, None, OnSome, Some, drop, length, option_map, string_bytes};
 ghost use Rattle.irp_names.specs.Sinks.{Says};
-ghost use Rattle.irp_grammar.specs.Lines.{IsFurther, ahead, first_of, next_of, texts};
+ghost use Rattle.irp_grammar.specs.Lines.{ahead, first_of, next_of, texts};
 ghost use Rattle.irp_grammar.specs.Faults.{AreFaultLines, IsFaultLine, SaysOne, hint_said, place_said, word_said};
 
 use crate::wanted::Wanted;
@@ -204,10 +204,9 @@ impl<'a, 'b> Cursor<'a, 'b> {
 
     /// Whether the next word is this one, which is then taken.
     pub fn takes(&mut self, text: &str) -> bool
-        ensures further { IsFurther (ahead self.old) (ahead self.new) }
-        ensures taken { MatchBool result
+        ensures { MatchBool result
             ((next_of (ahead self.old) ≡ text.now) × (ahead self.new ≡ drop 1 (ahead self.old)))
-            (ahead self.new ≡ ahead self.old) }
+            ((next_of (ahead self.old) ≢ text.now) × (ahead self.new ≡ ahead self.old)) }
     {
         if self.text() == text {
             self.pass();

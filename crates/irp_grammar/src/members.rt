@@ -1,10 +1,14 @@
 //! Completion routines, cancel routines, dispatches and drivers, each by its line.
 
-ghost use Rattle.std.specs.Prelude.{ℕ, List, [], ◌∷◌, ◌++◌, ◌≡◌, IfSome, OnSome, Some, min, true};
-ghost use Rattle.irp_forms.specs.Names.{first_named, rule_name, rules};
+ghost use Rattle.std.specs.Prelude.{[], ◌∷◌, ◌++◌, ◌≡◌, IfSome, OnSome, min, option_map};
+ghost use Rattle.irp_types.specs.Rules.{count_of_rule};
+ghost use Rattle.irp_types.specs.declared.routine.Rule.TheVariants.{Watch};
+ghost use Rattle.irp_forms.specs.declared.key_parts.Part.TheVariants.{Routine};
 ghost use Rattle.irp_grammar.specs.Lines.{ahead, next_of};
+ghost use Rattle.irp_grammar.specs.Naming.{IsNameIn, TakesName, behind, with_name_if, with_routine};
 ghost use Rattle.irp_grammar.specs.Reading as spec;
-ghost use Rattle.irp_grammar.specs.Reading.{IsBehindName, ends_in_colon, members_of};
+ghost use Rattle.irp_grammar.specs.Reading.{OnlyGives, given_of, members_of};
+ghost use Rattle.irp_grammar.specs.Routines as routines;
 
 use crate::cursor::Cursor;
 use crate::said::Said;
@@ -16,30 +20,40 @@ use irp_script_reader::{Behaviour, CompletionRoutine, Section};
 use irp_types::{CancelAnswer, DispatchId, Known, Replacement, Row, Rule, Status};
 use std::alloc::Global;
 
-/// The behaviour that a word is.
-fn behaviour_in(text: &str) -> Option<Behaviour> {
-    match text {
-        "continue" => Some(Behaviour::Continue),
-        "keep" => Some(Behaviour::Keep),
-        _ => None,
-    }
+/// The status and the information that the next words are.
+fn take_replacement(said: &Said<'_>, words: &mut Cursor<'_, '_>) -> Option<Replacement>
+    ensures { IfSome result (routines.TakesReplacement (given_of said.now).names (ahead words.old)
+        (ahead words.new)) }
+{
+    let status = Status(said.short(Part::Status, words)?);
+    let information = said.number(Part::Information, words)?;
+    Some(Replacement {
+        status,
+        information,
+    })
 }
 
 /// The behaviour that the next words are.
-fn take_behaviour(said: &Said<'_>, words: &mut Cursor<'_, '_>) -> Option<Behaviour> {
-    if !words.takes("replace") {
-        return words.taken(behaviour_in(words.text()), Wanted::Behaviour);
+fn take_behaviour(said: &Said<'_>, words: &mut Cursor<'_, '_>) -> Option<Behaviour>
+    ensures { IfSome result (routines.TakesBehaviour (given_of said.now).names (ahead words.old)
+        (ahead words.new)) }
+{
+    if words.takes("continue") {
+        return Some(Behaviour::Continue);
     }
-    let status = Status(said.short(Part::Status, words)?);
-    let information = said.number(Part::Information, words)?;
-    Some(Behaviour::Replace(Replacement {
-        status,
-        information,
-    }))
+    if words.takes("keep") {
+        return Some(Behaviour::Keep);
+    }
+    if !words.takes("replace") {
+        return words.fails(Wanted::Behaviour);
+    }
+    Some(Behaviour::Replace(take_replacement(said, words)?))
 }
 
 /// The behaviours that a rule has where none are written: the only ones that it may have.
-fn only_behaviours(rule: Rule) -> Option<(Behaviour, Behaviour)> {
+fn only_behaviours(rule: Rule) -> Option<(Behaviour, Behaviour)>
+    ensures { result ≡ routines.only_behaviours rule }
+{
     match rule {
         Rule::Watch => Some((Behaviour::Continue, Behaviour::Continue)),
         Rule::Keeper => Some((Behaviour::Keep, Behaviour::Keep)),
@@ -48,24 +62,36 @@ fn only_behaviours(rule: Rule) -> Option<(Behaviour, Behaviour)> {
     }
 }
 
-/// The behaviours that the next words are; where no word is left, the only ones that the rule may have.
-fn take_behaviours(
-    said: &Said<'_>,
-    rule: Rule,
-    words: &mut Cursor<'_, '_>,
-) -> Option<(Behaviour, Behaviour)> {
-    if words.left() == 0 {
-        if let Some(both) = only_behaviours(rule) {
-            return Some(both);
-        }
-    }
+/// The two behaviours that the next words are.
+fn take_both(said: &Said<'_>, words: &mut Cursor<'_, '_>) -> Option<(Behaviour, Behaviour)>
+    ensures { IfSome result (λ both. routines.TakesBoth (given_of said.now).names (ahead words.old)
+        (ahead words.new) both.0 both.1) }
+{
     let on_ok = take_behaviour(said, words)?;
     let on_err = take_behaviour(said, words)?;
     Some((on_ok, on_err))
 }
 
+/// The behaviours that the next words are; where no word is left, the only ones that the rule may have.
+fn take_behaviours(
+    said: &Said<'_>,
+    rule: Rule,
+    words: &mut Cursor<'_, '_>,
+) -> Option<(Behaviour, Behaviour)>
+    ensures { IfSome result (λ both. routines.TakesBehaviours (given_of said.now).names rule
+        (ahead words.old) (ahead words.new) both.0 both.1) }
+{
+    match only_behaviours(rule) {
+        Some(both) if words.left() == 0 => Some(both),
+        _ => take_both(said, words),
+    }
+}
+
 /// The entry of a driver's table that the next words are.
-fn take_entry(said: &Said<'_>, words: &mut Cursor<'_, '_>) -> Option<(u8, DispatchId)> {
+fn take_entry(said: &Said<'_>, words: &mut Cursor<'_, '_>) -> Option<(u8, DispatchId)>
+    ensures { IfSome result (λ entry. routines.TakesEntry (given_of said.now).names (ahead words.old)
+        (ahead words.new) entry) }
+{
     let Ok(major) = u8::try_from(said.number(Part::Major, words)?) else {
         return None;
     };
@@ -78,8 +104,11 @@ fn take_entries(
     table: &mut Vec<(u8, DispatchId)>,
     said: &Said<'_>,
     words: &mut Cursor<'_, '_>,
-) -> Option<()> {
-    for _ in 0..words.left() {
+) -> Option<()>
+    ensures { OnSome result (routines.TakesMore (given_of said.now).names (ahead words.old)
+        (ahead words.new) table.old.items table.new.items) }
+{
+    for _taken in 0..words.left() {
         let entry = take_entry(said, words)?;
         table.push(entry).ok()?;
         if words.left() == 0 {
@@ -91,25 +120,23 @@ fn take_entries(
 
 /// The name before a colon, where a word is one.
 fn name_in(word: &str) -> Option<&str>
-    ensures { OnSome result (ends_in_colon word.now ≡ true) }
+    ensures { IsNameIn word.now (option_map (λ name. name.now) result) }
 {
-    if word.ends_with(':') {
-        word.strip_suffix(':')
-    } else {
-        None
-    }
+    word.strip_suffix(':')
 }
 
 /// The name before a colon, with which a line may begin.
 fn name_before<'a>(words: &Cursor<'a, '_>) -> Option<&'a str>
-    ensures { OnSome result (ends_in_colon (next_of (ahead words.now)) ≡ true) }
+    ensures { IsNameIn (next_of (ahead words.now)) (option_map (λ name. name.now) result) }
 {
     name_in(words.text())
 }
 
 /// Passes over a name before a colon, which is given, where the line begins with one.
 fn pass_name<'a>(words: &mut Cursor<'a, '_>) -> Option<&'a str>
-    ensures { IsBehindName (ahead words.old) (ahead words.new) }
+    ensures name { IsNameIn (next_of (ahead words.old)) (option_map (λ name. name.now) result) }
+    ensures words { ahead words.new
+        ≡ behind (option_map (λ name. name.now) result) (ahead words.old) }
 {
     match name_before(words) {
         Some(name) => {
@@ -131,7 +158,9 @@ pub fn add<T: Drop>(list: &mut Vec<T>, one: T) -> Option<()>
 }
 
 /// The counts with one more completion routine of a rule.
-pub fn with_one(known: Known, rule: Rule) -> Known {
+pub fn with_one(known: Known, rule: Rule) -> Known
+    ensures { result ≡ with_routine rule known }
+{
     let count = known.count_of(rule).saturating_add(1);
     match rule {
         Rule::Watch => Known {
@@ -170,8 +199,9 @@ pub fn count_of(length: usize) -> u32
 impl<'a> Said<'a> {
     /// Gives the name before a colon, if the line begins with one, to this number.
     pub fn take_name(&mut self, part: Part, number: usize, words: &mut Cursor<'a, '_>) -> Option<()>
-        ensures said { members_of self.new ≡ members_of self.old }
-        ensures words { OnSome result (IsBehindName (ahead words.old) (ahead words.new)) }
+        ensures given { OnSome result (TakesName part Watch (min number 4294967295) (ahead words.old)
+            (ahead words.new) (given_of self.old) (given_of self.new)) }
+        ensures said { OnlyGives self.old self.new }
     {
         match name_before(words) {
             Some(text) => {
@@ -190,7 +220,10 @@ impl<'a> Said<'a> {
         rule: Rule,
         begin: &mut Cursor<'a, '_>,
     ) -> Option<()>
-        ensures { members_of self.new ≡ members_of self.old }
+        ensures given { OnSome result (given_of self.new ≡ with_name_if Routine rule
+            (option_map (λ text. text.now) name.entry) (count_of_rule self.old.counts rule)
+            (given_of self.old)) }
+        ensures said { OnlyGives self.old self.new }
     {
         match name {
             Some(text) => {
@@ -204,25 +237,30 @@ impl<'a> Said<'a> {
     /// The rule that the next word is; it counts one more completion routine, whose name stands before it where it has
     /// one.
     fn take_rule(&mut self, words: &mut Cursor<'a, '_>) -> Option<Rule>
-        ensures said { members_of self.new ≡ members_of self.old }
-        ensures words { IfSome result (λ rule. (rest : List (List ℕ)) × IsBehindName (ahead words.old) rest
-            × (first_named rule_name rules (next_of rest) ≡ Some rule)) }
+        ensures rule { IfSome result (λ rule. spec.TakesRule (ahead words.old) (ahead words.new) rule
+            (given_of self.old) (given_of self.new)) }
+        ensures said { OnlyGives self.old self.new }
     {
         let mut begin = *words;
         let name = pass_name(words);
         let rule = words.taken(named::<Rule>(words.text()), Wanted::Rule)?;
-        if self.name_rule(name, rule, &mut begin).is_none() {
-            *words = begin;
-            return None;
+        match self.name_rule(name, rule, &mut begin) {
+            Some(()) => {
+                self.counts = with_one(self.counts, rule);
+                Some(rule)
+            }
+            None => {
+                *words = begin;
+                None
+            }
         }
-        self.counts = with_one(self.counts, rule);
-        Some(rule)
     }
 
     /// Takes the line of a completion routine.
     pub fn take_completion(&mut self, words: &mut Cursor<'a, '_>) -> Option<()>
         ensures { OnSome result
-            (spec.SaysCompletion (ahead words.old) (members_of self.old) (members_of self.new)) }
+            (spec.SaysCompletion (ahead words.old) (ahead words.new) (members_of self.old)
+            (members_of self.new)) }
     {
         self.place(Section::Completions, words)?;
         let rule = self.take_rule(words)?;
@@ -238,7 +276,8 @@ impl<'a> Said<'a> {
     /// Takes the line of a cancel routine.
     pub fn take_cancel(&mut self, words: &mut Cursor<'a, '_>) -> Option<()>
         ensures { OnSome result
-            (spec.SaysCancel (ahead words.old) (members_of self.old) (members_of self.new)) }
+            (spec.SaysCancel (ahead words.old) (ahead words.new) (members_of self.old)
+            (members_of self.new)) }
     {
         self.place(Section::Cancels, words)?;
         let number = self.cancels.len();
@@ -250,7 +289,8 @@ impl<'a> Said<'a> {
     /// Takes the line of a dispatch.
     pub fn take_dispatch(&mut self, words: &mut Cursor<'a, '_>) -> Option<()>
         ensures { OnSome result
-            (spec.SaysDispatch (ahead words.old) (members_of self.old) (members_of self.new)) }
+            (spec.SaysDispatch (ahead words.old) (ahead words.new) (members_of self.old)
+            (members_of self.new)) }
     {
         self.place(Section::Dispatches, words)?;
         let number = self.dispatches.len();
@@ -261,21 +301,22 @@ impl<'a> Said<'a> {
     }
 
     /// The table of a driver that the rest of the line is.
-    fn take_table(
-        &self,
-        alloc: Global,
-        words: &mut Cursor<'a, '_>,
-    ) -> Option<Row<(u8, DispatchId)>> {
+    fn take_table(&self, alloc: Global, words: &mut Cursor<'a, '_>) -> Option<Row<(u8, DispatchId)>>
+        ensures { IfSome result (λ table. routines.TakesTable (given_of self.now).names
+            (ahead words.old) (ahead words.new) table) }
+    {
         let mut table = Vec::new(alloc);
-        if !words.takes("nothing") {
-            take_entries(&mut table, self, words)?;
+        if words.takes("nothing") {
+            return Some(Row::from_vec(table));
         }
+        take_entries(&mut table, self, words)?;
         Some(Row::from_vec(table))
     }
 
     /// Takes the line of a driver.
     pub fn take_driver(&mut self, alloc: Global, words: &mut Cursor<'a, '_>) -> Option<()>
-        ensures { OnSome result (spec.SaysDriver (members_of self.old) (members_of self.new)) }
+        ensures { OnSome result (spec.SaysDriver (ahead words.old) (ahead words.new)
+            (members_of self.old) (members_of self.new)) }
     {
         self.place(Section::Drivers, words)?;
         let number = self.drivers.len();
@@ -287,7 +328,8 @@ impl<'a> Said<'a> {
 
 /// The answer of a cancel routine that the next words are.
 fn take_answer(said: &Said<'_>, words: &mut Cursor<'_, '_>) -> Option<CancelAnswer>
-    ensures { IfSome result (spec.IsAnswer (ahead words.old)) }
+    ensures { IfSome result (routines.TakesCancel (given_of said.now).names (ahead words.old)
+        (ahead words.new)) }
 {
     if words.takes("leave") {
         return Some(CancelAnswer::Leave);

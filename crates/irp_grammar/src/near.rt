@@ -1,6 +1,6 @@
 //! What may be meant by a word.
 
-use crate::condition::ANSWERS;
+use crate::condition::answers;
 use crate::names::{Names, named_as};
 use crate::wanted::Wanted;
 use irp_forms::{ActKind, Part};
@@ -59,10 +59,10 @@ fn name_at(wanted: Wanted, number: u8) -> Option<&'static str> {
 
 /// The word with this number, from 0, of those of answers: those that have no value, and statuses.
 fn answer_at(place: usize) -> Option<&'static str> {
-    if let Some((word, _)) = ANSWERS.get(place) {
+    if let Some((word, _)) = answers().get(place) {
         return Some(*word);
     }
-    let place = place.saturating_sub(ANSWERS.len());
+    let place = place.saturating_sub(answers().len());
     Some(status_names().get(place)?.1)
 }
 

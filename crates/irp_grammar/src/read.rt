@@ -1,9 +1,10 @@
 //! A text, read line by line.
 
-ghost use Rattle.std.specs.Prelude.{[], ◌<◌, ◌≡◌, ◌≢◌, IfOk, IfSome, IsUtf8, OnOk, OnSome, length, map, min};
+ghost use Rattle.std.specs.Prelude.{[], ◌<◌, ◌≡◌, ◌≢◌, IfOk, IfSome, IsUtf8, OnOk, OnSome, drop, length, map, min, take};
 ghost use Rattle.irp_grammar.specs.Lines.{ahead, lines_of, texts};
 ghost use Rattle.irp_grammar.specs.Reading as spec;
-ghost use Rattle.irp_grammar.specs.Reading.{IsReadFrom, members_of};
+ghost use Rattle.irp_grammar.specs.Naming.{with_names};
+ghost use Rattle.irp_grammar.specs.Reading.{IsReadFrom, OnlyGives, given_of, members_of};
 ghost use Rattle.irp_grammar.specs.Showing.{shown};
 ghost use Rattle.irp_script_reader.specs.declared.refusal.Section.TheVariants.{Top};
 
@@ -124,24 +125,27 @@ fn lines_of<'a>(alloc: Global, text: &'a str) -> Result<Vec<Line<'a>>, AllocErro
 impl<'a> Said<'a> {
     /// Gives as many names as words are left to the numbers from 0 on, and gives their count.
     fn take_names(&mut self, part: Part, words: &mut Cursor<'a, '_>) -> Option<u32>
-        ensures said { members_of self.new ≡ members_of self.old }
         ensures count { IfSome result (λ count.
             count ≡ min (length (ahead words.old)) 4294967295) }
+        ensures names { IfSome result (λ count. given_of self.new
+            ≡ with_names part 0 (take count (ahead words.old)) (given_of self.old)) }
+        ensures words { IfSome result (λ count.
+            ahead words.new ≡ drop count (ahead words.old)) }
+        ensures said { OnlyGives self.old self.new }
     {
         let count = count_of(words.left());
         for number in 0..count {
-            if let Some(text) = words.peek() {
-                self.name(part, text, number, words)?;
-                words.pass();
-            }
+            self.name(part, words.text(), number, words)?;
+            words.pass();
         }
         Some(count)
     }
 
     /// The count that the rest of a line is: a number, or as many names as there are.
     fn take_count(&mut self, part: Part, words: &mut Cursor<'a, '_>) -> Option<u32>
-        ensures said { members_of self.new ≡ members_of self.old }
-        ensures count { IfSome result (spec.IsCount (ahead words.old)) }
+        ensures count { IfSome result (λ count. spec.TakesCount part (ahead words.old)
+            (ahead words.new) count (given_of self.old) (given_of self.new)) }
+        ensures said { OnlyGives self.old self.new }
     {
         if words.left() == 0 {
             return words.fails(Wanted::Count);
@@ -155,8 +159,9 @@ impl<'a> Said<'a> {
 
     /// The form, or the count, that the rest of a line is.
     fn take_number(&mut self, section: Section, words: &mut Cursor<'a, '_>) -> Option<u32>
-        ensures said { members_of self.new ≡ members_of self.old }
-        ensures number { IfSome result (spec.IsNumberOf section (ahead words.old)) }
+        ensures number { IfSome result (λ number. spec.TakesNumberOf section (ahead words.old)
+            (ahead words.new) number (given_of self.old) (given_of self.new)) }
+        ensures said { OnlyGives self.old self.new }
     {
         match section {
             Section::Seats => self.take_count(Part::Seat, words),
@@ -181,7 +186,8 @@ impl<'a> Said<'a> {
     /// Takes a line above the sections.
     fn take_top(&mut self, words: &mut Cursor<'a, '_>) -> Option<()>
         ensures { OnSome result
-            (spec.SaysCount (ahead words.old) (members_of self.old) (members_of self.new)) }
+            (spec.SaysCount (ahead words.old) (ahead words.new) (members_of self.old)
+            (members_of self.new)) }
     {
         let begin = *words;
         let section = words.taken(count_named(words.text()), Wanted::Heading)?;
@@ -203,15 +209,37 @@ impl<'a> Said<'a> {
         words: &mut Cursor<'a, '_>,
     ) -> Option<()>
         ensures { OnSome result
-            (spec.SaysMember section (ahead words.old) (members_of self.old) (members_of self.new)) }
+            (spec.SaysMember section (ahead words.old) (ahead words.new) (members_of self.old)
+            (members_of self.new)) }
     {
         match section {
             Section::Completions => self.take_completion(words),
             Section::Cancels => self.take_cancel(words),
             Section::Dispatches => self.take_dispatch(words),
             Section::Drivers => self.take_driver(alloc, words),
-            Section::Setup | Section::Steps => self.take_step(section, words),
+            Section::Setup => self.take_step(Section::Setup, words),
+            Section::Steps => self.take_step(Section::Steps, words),
             _ => self.take_top(words),
+        }
+    }
+
+    /// Takes the heading of a section; or a member of this section, where the line is no heading.
+    fn take_behind(
+        &mut self,
+        alloc: Global,
+        headed: Option<Section>,
+        section: Section,
+        words: &mut Cursor<'a, '_>,
+    ) -> Option<()>
+        ensures { OnSome result (spec.SaysBehind headed section (ahead words.old) (ahead words.new)
+            (members_of self.old) (members_of self.new)) }
+    {
+        match headed {
+            Some(_) => {
+                words.pass();
+                Some(())
+            }
+            None => self.take_member(alloc, section, words),
         }
     }
 
@@ -226,11 +254,7 @@ impl<'a> Said<'a> {
         ensures { OnSome result (spec.SaysWords headed section (ahead words.old)
             (members_of self.old) (members_of self.new)) }
     {
-        if headed.is_some() {
-            words.pass();
-        } else {
-            self.take_member(alloc, section, words)?;
-        }
+        self.take_behind(alloc, headed, section, words)?;
         words.ended()
     }
 

@@ -1,9 +1,10 @@
 //! What the lines of a text say, as far as they were read.
 
 ghost use Rattle.std.specs.Prelude.{◌≡◌, ◌≢◌, ◌⊎◌, [], IfSome, OnOk, OnSome};
-ghost use Rattle.irp_grammar.specs.Lines.{IsFurther, ahead};
-ghost use Rattle.irp_grammar.specs.Numbers.{IsNumberAt};
-ghost use Rattle.irp_grammar.specs.Reading.{members_of, nothing_said};
+ghost use Rattle.irp_types.specs.declared.routine.Rule.TheVariants.{Watch};
+ghost use Rattle.irp_grammar.specs.Lines.{ahead};
+ghost use Rattle.irp_grammar.specs.Naming.{TakesNumber, with_name};
+ghost use Rattle.irp_grammar.specs.Reading.{OnlyGives, given_of, members_of, nothing_said};
 ghost use Rattle.irp_grammar.specs.Saying.{form_number, have_conditions};
 
 use crate::cursor::{Cursor, WordsFault};
@@ -115,8 +116,8 @@ impl<'a> Said<'a> {
 
     /// The number of such a part that the next word is.
     pub fn number(&self, part: Part, words: &mut Cursor<'_, '_>) -> Option<u64>
-        ensures number { IfSome result (IsNumberAt (ahead words.old)) }
-        ensures words { OnSome result (IsFurther (ahead words.old) (ahead words.new)) }
+        ensures { IfSome result
+            (TakesNumber (given_of self.now).names part (ahead words.old) (ahead words.new)) }
     {
         let read = self.names.number(part, words.text());
         words.taken(read, Wanted::Of(part))
@@ -124,8 +125,8 @@ impl<'a> Said<'a> {
 
     /// The same for a part whose numbers are below 2^32.
     pub fn short(&self, part: Part, words: &mut Cursor<'_, '_>) -> Option<u32>
-        ensures number { IfSome result (IsNumberAt (ahead words.old)) }
-        ensures words { OnSome result (IsFurther (ahead words.old) (ahead words.new)) }
+        ensures { IfSome result
+            (TakesNumber (given_of self.now).names part (ahead words.old) (ahead words.new)) }
     {
         let read = self.names.short(part, words.text());
         words.taken(read, Wanted::Of(part))
@@ -139,7 +140,9 @@ impl<'a> Said<'a> {
         number: u32,
         words: &mut Cursor<'a, '_>,
     ) -> Option<()>
-        ensures said { members_of self.new ≡ members_of self.old }
+        ensures given { OnSome result
+            (given_of self.new ≡ with_name part Watch text.now number (given_of self.old)) }
+        ensures said { OnlyGives self.old self.new }
         ensures words { OnSome result (ahead words.new ≡ ahead words.old) }
     {
         self.name_routine(part, text, Rule::Watch, number, words)
@@ -154,7 +157,9 @@ impl<'a> Said<'a> {
         number: u32,
         words: &mut Cursor<'a, '_>,
     ) -> Option<()>
-        ensures said { members_of self.new ≡ members_of self.old }
+        ensures given { OnSome result
+            (given_of self.new ≡ with_name part rule text.now number (given_of self.old)) }
+        ensures said { OnlyGives self.old self.new }
         ensures words { OnSome result (ahead words.new ≡ ahead words.old) }
     {
         if !is_name(text) {

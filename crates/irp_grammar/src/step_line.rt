@@ -1,7 +1,8 @@
 //! Steps and plans as their lines say them: a word, and values in the order of the word's keys or parts.
 
-ghost use Rattle.std.specs.Prelude.{◌≡◌};
+ghost use Rattle.std.specs.Prelude.{◌≡◌, Decides};
 ghost use Rattle.irp_grammar.specs.Saying as spec;
+ghost use Rattle.irp_grammar.specs.declared.step_line.Value.TheVariants.{Absent};
 
 use Value::{Absent, Number, Packet, Set};
 use irp_forms::{ActKind, StepPlace};
@@ -23,6 +24,15 @@ pub enum Value {
     /// A packet, or a label, which has this place among those of the text.
     Packet(Named),
     Set(Setting),
+}
+
+impl Value {
+    /// Whether there is no such key.
+    pub fn is_absent(self) -> bool
+        ensures { Decides result (self ≡ Absent) }
+    {
+        matches!(self, Absent)
+    }
 }
 
 /// The values of a step's keys, or of a plan's parts, in their order: up to six.

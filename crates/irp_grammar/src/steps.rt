@@ -1,9 +1,10 @@
 //! Steps, each by its line, and a stack of devices in one line.
 
-ghost use Rattle.std.specs.Prelude.{[], ◌∷◌, ◌≡◌, ◌⊎◌, IfSome, OnSome, Some};
-ghost use Rattle.irp_grammar.specs.Lines.{IsFurther, ahead};
+ghost use Rattle.std.specs.Prelude.{[], ◌∷◌, ◌≡◌, ◌⊎◌, IfSome, OnSome};
+ghost use Rattle.irp_grammar.specs.Heads.{TakesSeat};
+ghost use Rattle.irp_grammar.specs.Lines.{ahead};
 ghost use Rattle.irp_grammar.specs.Reading as spec;
-ghost use Rattle.irp_grammar.specs.Reading.{AddsSteps, members_of, with_steps};
+ghost use Rattle.irp_grammar.specs.Reading.{AddsSteps, IsHeaded, OnlyGives, given_of, members_of, with_device, with_given, with_steps};
 
 use crate::cursor::Cursor;
 use crate::members::add;
@@ -24,7 +25,9 @@ struct Head {
 impl Head {
     /// The step with this word and these values.
     fn step(self, act: ActKind, values: Values) -> StepLine
-        ensures { result.act ≡ act }
+        ensures act { result.act ≡ act }
+        ensures values { result.values ≡ values }
+        ensures head { IsHeaded self.seat self.condition result }
     {
         StepLine {
             seat: self.seat,
@@ -38,9 +41,10 @@ impl Head {
 impl<'a> Said<'a> {
     /// Counts a device, where a step creates one.
     fn count_device(&mut self, act: ActKind)
-        ensures { members_of self.new ≡ members_of self.old }
+        ensures given { given_of self.new ≡ with_device act (given_of self.old) }
+        ensures said { OnlyGives self.old self.new }
     {
-        if act == ActKind::CreateDevice {
+        if matches!(act, ActKind::CreateDevice) {
             self.devices = self.devices.saturating_add(1);
         }
     }
@@ -48,7 +52,8 @@ impl<'a> Said<'a> {
     /// Takes a step; none where memory runs out.
     fn add_step(&mut self, section: Section, step: StepLine) -> Option<()>
         ensures { OnSome result
-            (members_of self.new ≡ with_steps section (step ∷ []) (members_of self.old)) }
+            (members_of self.new ≡ with_steps section (step ∷ [])
+            (with_given (with_device step.act (given_of self.old)) (members_of self.old))) }
     {
         self.count_device(step.act);
         match section {
@@ -59,7 +64,9 @@ impl<'a> Said<'a> {
 
     /// Gives the device that the next step creates a name, where the next word is `as`.
     fn take_device_name(&mut self, words: &mut Cursor<'a, '_>) -> Option<()>
-        ensures { members_of self.new ≡ members_of self.old }
+        ensures given { OnSome result (spec.TakesDeviceName (ahead words.old) (ahead words.new)
+            (given_of self.old) (given_of self.new)) }
+        ensures said { OnlyGives self.old self.new }
     {
         if !words.takes("as") {
             return Some(());
@@ -114,7 +121,7 @@ impl<'a> Said<'a> {
 
     /// Takes the driver of a stack's device, its lock where that is given, and its name.
     fn take_stack_device(&mut self, values: &mut Values, words: &mut Cursor<'a, '_>) -> Option<()>
-        ensures { members_of self.new ≡ members_of self.old }
+        ensures { OnlyGives self.old self.new }
     {
         if words.takes("lock") {
             values[1] = Value::Number(self.number(Part::Lock, words)?);
@@ -171,9 +178,9 @@ impl<'a> Said<'a> {
     }
 
     /// The seat of a step, where the next words give it; else the first.
-    #[tactic(auto, using(crate::proofs::Further::further_both))]
     fn take_seat(&self, words: &mut Cursor<'_, '_>) -> Option<u32>
-        ensures { OnSome result (IsFurther (ahead words.old) (ahead words.new)) }
+        ensures { IfSome result
+            (TakesSeat (given_of self.now).names (ahead words.old) (ahead words.new)) }
     {
         if words.takes("seat") {
             self.short(Part::Seat, words)
@@ -183,10 +190,10 @@ impl<'a> Said<'a> {
     }
 
     /// What stands before a step of this section on its line, behind its name.
-    #[tactic(auto, using(crate::proofs::Further::further_both))]
     fn take_head(&self, section: Section, words: &mut Cursor<'_, '_>) -> Option<Head>
         ensures section { IfSome result (λ head. head.section ≡ section) }
-        ensures words { OnSome result (IsFurther (ahead words.old) (ahead words.new)) }
+        ensures head { IfSome result (λ head. spec.TakesHead (ahead words.old) (ahead words.new)
+            head.seat head.condition (given_of self.now)) }
     {
         let seat = self.take_seat(words)?;
         let condition = self.take_condition(words)?;
@@ -199,19 +206,20 @@ impl<'a> Said<'a> {
 
     /// Gives the device that a step creates a name, where it is such a step and the next word is `as`.
     fn take_name_for(&mut self, act: ActKind, words: &mut Cursor<'a, '_>) -> Option<()>
-        ensures { members_of self.new ≡ members_of self.old }
+        ensures given { OnSome result (spec.TakesNameOf act (ahead words.old) (ahead words.new)
+            (given_of self.old) (given_of self.new)) }
+        ensures said { OnlyGives self.old self.new }
     {
-        if act == ActKind::CreateDevice {
-            self.take_device_name(words)
-        } else {
-            Some(())
+        match act {
+            ActKind::CreateDevice => self.take_device_name(words),
+            _ => Some(()),
         }
     }
 
     /// Takes a step, behind its head.
     fn take_act(&mut self, head: Head, words: &mut Cursor<'a, '_>) -> Option<()>
-        ensures { OnSome result (spec.SaysAct head.section (ahead words.old) (members_of self.old)
-            (members_of self.new)) }
+        ensures { OnSome result (spec.SaysAct head.section head.seat head.condition
+            (ahead words.old) (ahead words.new) (members_of self.old) (members_of self.new)) }
     {
         let act = words.taken(ActKind::named(words.text()), Wanted::Act)?;
         let values = self.take_values(act, words)?;
@@ -223,7 +231,8 @@ impl<'a> Said<'a> {
     /// Takes a step, or a stack, behind its head.
     fn take_act_or_stack(&mut self, head: Head, words: &mut Cursor<'a, '_>) -> Option<()>
         ensures { OnSome result
-            (spec.SaysAct head.section (ahead words.old) (members_of self.old) (members_of self.new)
+            (spec.SaysAct head.section head.seat head.condition (ahead words.old) (ahead words.new)
+            (members_of self.old) (members_of self.new)
             ⊎ spec.SaysStack head.section (ahead words.old) (members_of self.old)
             (members_of self.new)) }
     {
@@ -236,21 +245,22 @@ impl<'a> Said<'a> {
 
     /// Gives the name, if the line of a step of `steps` begins with one, to it.
     fn take_step_name(&mut self, section: Section, words: &mut Cursor<'a, '_>) -> Option<()>
-        ensures said { members_of self.new ≡ members_of self.old }
-        ensures words { OnSome result (IsFurther (ahead words.old) (ahead words.new)) }
+        ensures given { OnSome result (spec.TakesStepName section
+            (spec.place_after self.old.steps.items) (ahead words.old) (ahead words.new)
+            (given_of self.old) (given_of self.new)) }
+        ensures said { OnlyGives self.old self.new }
     {
-        if section == Section::Steps {
-            let number = self.steps.len();
-            self.take_name(Part::Step, number, words)
-        } else {
-            Some(())
+        let number = self.steps.len();
+        match section {
+            Section::Steps => self.take_name(Part::Step, number, words),
+            _ => Some(()),
         }
     }
 
     /// Takes the line of a step of this section.
     pub fn take_step(&mut self, section: Section, words: &mut Cursor<'a, '_>) -> Option<()>
-        ensures { OnSome result (spec.SaysStep section (ahead words.old) (members_of self.old)
-            (members_of self.new)) }
+        ensures { OnSome result (spec.SaysStep section (ahead words.old) (ahead words.new)
+            (members_of self.old) (members_of self.new)) }
     {
         self.place(section, words)?;
         self.take_step_name(section, words)?;

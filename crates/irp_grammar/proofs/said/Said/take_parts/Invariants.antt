@@ -1,9 +1,11 @@
-use Rattle.std.proofs.Common.{◌≡◌}
-use Rattle.irp_grammar.specs.Reading.{members_of}
+use Rattle.irp_grammar.specs.Lines.{ahead}
+use Rattle.irp_grammar.specs.Reading.{OnlyGives, given_of}
+use Rattle.irp_grammar.specs.Saying.{none}
+use Rattle.irp_grammar.specs.Values.{TakeParts}
 use Rattle.irp_grammar.proofs.said.Said.take_parts.Given as goal
 
--- values are taken, and nothing is said
-abbrev pub invariant-loop-part : goal.invariant-loop-part
-invariant-loop-part l =
-    (goal.iterator-loop-part).can_next l.part-iterator ×
-    (goal.iterator-loop-part).is_finite l.part-iterator × (members_of l.self ≡ members_of l.initial.self)
+-- so many values are taken, and nothing is said
+abbrev pub invariant-loop-place : goal.invariant-loop-place
+invariant-loop-place l =
+    TakeParts l.place l.parts (ahead l.initial.words) (ahead l.words) none l.values (given_of l.initial.self) (given_of l.self)
+    × OnlyGives l.initial.self l.self

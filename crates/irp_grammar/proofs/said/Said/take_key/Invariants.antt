@@ -1,9 +1,0 @@
-use Rattle.std.proofs.Common.{◌≡◌}
-use Rattle.irp_grammar.specs.Reading.{members_of}
-use Rattle.irp_grammar.proofs.said.Said.take_key.Given as goal
-
--- values are taken, and nothing is said
-abbrev pub invariant-loop-key : goal.invariant-loop-key
-invariant-loop-key l =
-    (goal.iterator-loop-key).can_next l.key-iterator ×
-    (goal.iterator-loop-key).is_finite l.key-iterator × (members_of l.self ≡ members_of l.initial.self)
