@@ -1,5 +1,5 @@
 -- Names that lines give, and entries that they list, one after the other.
-use Rattle.std.proofs.Common.{ℕ, ◌≡◌, ◌≢◌, ◌<◌, ◌+◌, ◌∙◌, suc, arith, List, [], ◌∷◌, ◌++◌, Bor, length, get_or, drop, take, ap, sym, subst, refl, append_assoc, append-nil, Option, Some, None}
+use Rattle.std.proofs.Common.{ℕ, ◌≡◌, ◌≢◌, ◌<◌, ◌+◌, ◌∙◌, suc, arith, List, [], ◌∷◌, ◌++◌, Bor, length, get_or, drop, take, ap, subst, refl, append_assoc, Option, Some, None}
 use Rattle.std.specs.Prelude.{MatchOption}
 use Rattle.std.specs.Option.{option_map, unwrap_or}
 use Rattle.std.proofs.lemmas.List.{get_or-drop, length-take-le, take_more}
@@ -54,9 +54,6 @@ entries_more names words behind rest [] entry is takes =
     (rest, subst (λ (some : List (List ℕ)). TakesEntry names some rest entry) is takes, refl)
 entries_more names words behind rest (first ∷ entries) entry take takes =
     (take.0, take.1, entries_more names take.0 behind rest entries entry take.2 takes)
-
-pub takes_none : (names : List Naming) (words : List (List ℕ)) (table : List (ℕ × DispatchId)) → TakesMore names words words table table
-takes_none names words table = ([], refl, sym (append-nil table))
 
 pub takes_more : (names : List Naming) (words behind rest : List (List ℕ)) (before between after : List (ℕ × DispatchId))
     (entry : ℕ × DispatchId) → TakesMore names words behind before between → TakesEntry names behind rest entry

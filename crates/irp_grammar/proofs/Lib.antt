@@ -1,4 +1,4 @@
-pub mod Adding
+mod Adding
 mod Deciding
 mod Finding
 mod Giving

@@ -1,11 +1,11 @@
 -- Lines that are taken one after the other.
-use Rattle.std.proofs.Common.{◌≡◌, ◌≢◌, ◌⊎◌, inl, inr, ◌∙◌, ℕ, Bool, true, false, if◌then◌else◌, not, List, [], ◌∷◌, ◌++◌, Option, Some, None, append-nil, ap, refl, subst, sym}
+use Rattle.std.proofs.Common.{◌≡◌, ◌≢◌, ◌⊎◌, ◌-◌, inl, inr, ◌∙◌, ℕ, Bool, true, false, if◌then◌else◌, not, List, [], ◌∷◌, ◌++◌, Option, Some, None, append-nil, ap, refl, subst, sym}
 use Rattle.std.proofs.lemmas.List.Elements.{filter-append}
 use Rattle.irp_script_reader.specs.declared.refusal.Section.{Section}
 use Rattle.irp_script_reader.specs.declared.refusal.Section.TheVariants as section
 use Rattle.irp_grammar.specs.Lines.{lines_of, next_of}
-use Rattle.irp_grammar.specs.Reading.{IsReadFrom, IsTaken, IsTakenIf, Line, Members, SayLines, SaySoFar, SaysAct, SaysBehind, SaysLine, SaysMember, SaysStack, SaysStep, SaysWords, added, heading, is_setup, members_of, nothing_said, of_others, of_steps, placed, steps_last, those, with_count, with_given}
-use Rattle.irp_grammar.specs.Naming.{Given}
+use Rattle.irp_grammar.specs.Reading.{IsReadFrom, IsTaken, IsTakenIf, Line, Members, SayLines, SaySoFar, SaysAct, SaysBehind, SaysLine, SaysMember, SaysStack, SaysStep, SaysWords, added, attachments, heading, is_setup, members_of, nothing_said, of_others, of_steps, placed, steps_last, those, with_count, with_given}
+use Rattle.irp_grammar.specs.Naming.{Given, one_more}
 use Rattle.irp_grammar.specs.declared.said.Said.{Said}
 use Rattle.irp_grammar.specs.declared.step_line.StepLine.{StepLine}
 
@@ -22,10 +22,14 @@ steps_keep false more given old new is = ap (λ (some : Members). some.faults) i
 step_keeps : (its : Section) (words rest : List (List ℕ)) (old new : Members) → SaysStep its words rest old new → Keeps old new
 step_keeps its words rest old new says = by says.7
   where
-    by : SaysAct its says.3 says.4 says.1 rest (with_given says.2 old) new ⊎ SaysStack its says.1 (with_given says.2 old) new
+    by : SaysAct its says.3 says.4 says.1 rest (with_given says.2 old) new ⊎ SaysStack its says.3 says.4 says.1 rest (with_given says.2 old) new
         → Keeps old new
     by (inl one) = steps_keep (is_setup its) (one.0 ∷ []) one.1 old new one.4
-    by (inr some) = steps_keep (is_setup its) some.1.more some.1.given old new some.1.is
+    by (inr some) =
+        let stack = some.1 in
+        steps_keep (is_setup its) (attachments (stack.created.given.devices - one_more says.2.devices) says.3 says.4 (one_more says.2.devices))
+        stack.created.given stack.created new stack.is
+        ∙ steps_keep (is_setup its) stack.creates.steps stack.creates.given old stack.created stack.creates.is
 
 count_keeps : (its : Section) (number : ℕ) (given : Given) (old new : Members) → new ≡ with_count its number (with_given given old) → Keeps old new
 count_keeps section.Seats number given old new is = ap (λ (some : Members). some.faults) is

@@ -1,5 +1,5 @@
 -- What a text in words says, line by line, in the sections of docs/WORDS.md: headings, counts, and the members of lists.
-use Rattle.std.specs.Prelude.{ℕ, ◌≡◌, ◌≢◌, ◌⊎◌, Bool, true, false, if◌then◌else◌, MatchBool, List, [], ◌∷◌, ◌++◌, codes, drop, length, min, not, take, unwrap_or, Option, Some, None}
+use Rattle.std.specs.Prelude.{ℕ, ◌≡◌, ◌≢◌, ◌⊎◌, ◌+◌, ◌-◌, suc, zero, Bool, true, false, if◌then◌else◌, MatchBool, List, [], ◌∷◌, ◌++◌, codes, drop, length, min, not, take, unwrap_or, Option, Some, None}
 use Rattle.std.specs.List.{filter}
 use Rattle.std.proofs.Common.{bytes_eq}
 use Rattle.irp_types.specs.Rules.{count_of_rule}
@@ -17,13 +17,14 @@ use Rattle.irp_script_reader.specs.declared.refusal.Section.TheVariants as secti
 use Rattle.irp_script_reader.specs.declared.script.{CompletionRoutine.CompletionRoutine, ScriptParts.ScriptParts}
 use Rattle.irp_grammar.specs.Heads.{TakesCondition, TakesSeat}
 use Rattle.irp_grammar.specs.Lines.{lines_of, next_of}
-use Rattle.irp_grammar.specs.Naming.{Given, TakesName, label_texts, namings, one_more, with_name, with_names, with_routine}
+use Rattle.irp_grammar.specs.Naming.{Given, Naming, TakesNumber, TakesName, label_texts, namings, one_more, with_name, with_names, with_routine}
 use Rattle.irp_grammar.specs.Numbers.{begins_with_digit, number_in}
 use Rattle.irp_grammar.specs.Routines.{TakesBehaviours, TakesCancel, TakesTable}
 use Rattle.irp_grammar.specs.Saying.{Says}
 use Rattle.irp_grammar.specs.Values.{AreKeyValues, ArePartValues}
 use Rattle.irp_grammar.specs.declared.{cursor.WordsFault.WordsFault, said.Said.Said}
-use Rattle.irp_grammar.specs.declared.step_line.{PlanLine.PlanLine, StepLine.StepLine}
+use Rattle.irp_grammar.specs.declared.step_line.{PlanLine.PlanLine, StepLine.StepLine, Value.Value}
+use Rattle.irp_grammar.specs.declared.step_line.Value.TheVariants as value
 
 -- ---- what is said so far
 
@@ -215,14 +216,82 @@ SaysAct its seat condition words rest old new =
     (step : StepLine) × (given : Given) × IsHeaded seat condition step × TakesStep words rest step old.given given
     × (new ≡ with_steps its (step ∷ []) (with_given given old))
 
--- a stack, which is more than one step
-pub record AddsSteps (its : Section) (old new : Members) : Type 0 where
-  pub given : Given
-  pub more : List StepLine
-  pub is : new ≡ with_steps its more (with_given given old)
+-- ---- stacks
 
-abbrev pub SaysStack : Section → List (List ℕ) → Members → Members → Type 0
-SaysStack its words old new = (next_of words ≡ codes "stack") × AddsSteps its old new
+-- the lock that a device of a stack has: that behind `lock`, or that of the device below
+abbrev pub TakesLock : List Naming → ℕ → List (List ℕ) → List (List ℕ) → ℕ → Type 0
+TakesLock names below words rest lock =
+    ((next_of words ≡ codes "lock") × TakesNumber names part.Lock (drop 1 words) rest lock)
+    ⊎ ((next_of words ≢ codes "lock") × (lock ≡ below) × (rest ≡ words))
+
+-- a device of a stack: its lock, its driver, and a name behind `as`, where it has one
+pub record TakesDevice (below : ℕ) (words rest : List (List ℕ)) (driver lock : ℕ) (old new : Given) : Type 0 where
+  pub behind : List (List ℕ)
+  pub between : List (List ℕ)
+  pub locked : TakesLock old.names below words behind lock
+  pub driven : TakesNumber old.names part.Driver behind between driver
+  pub named : TakesDeviceName between rest old new
+
+-- the step that creates it, and that which attaches a device to the one below it
+abbrev pub two : ℕ → ℕ → List Value
+two one other =
+    value.Number one ∷ value.Number other ∷ value.Absent ∷ value.Absent ∷ value.Absent ∷ value.Absent ∷ []
+
+abbrev pub creation : ℕ → Option Condition → ℕ → ℕ → StepLine
+creation seat condition driver lock =
+    record { seat = seat; act = act.CreateDevice; values = two driver lock; condition = condition }
+
+abbrev pub attachment : ℕ → Option Condition → ℕ → StepLine
+attachment seat condition device =
+    record { seat = seat; act = act.Attach; values = two device (device - 1); condition = condition }
+
+-- so many devices from the bottom up, the last with this lock, and the steps that create them
+abbrev pub TakeDevices :
+    ℕ → ℕ → Option Condition → List (List ℕ) → List (List ℕ) → ℕ → List StepLine → Given → Given → Type 0
+TakeDevices zero seat condition words rest lock steps old new =
+    (lock ≡ 0) × (steps ≡ []) × (rest ≡ words) × (new ≡ old)
+TakeDevices (suc count) seat condition words rest lock steps old new =
+    (behind : List (List ℕ)) × (below driver : ℕ) × (before : List StepLine) × (between named : Given)
+    × TakeDevices count seat condition words behind below before old between
+    × TakesDevice below behind rest driver lock between named × (new ≡ with_device act.CreateDevice named)
+    × (steps ≡ before ++ creation seat condition driver lock ∷ [])
+
+-- those that attach so many devices, from this one on
+abbrev pub attachments : ℕ → ℕ → Option Condition → ℕ → List StepLine
+attachments zero seat condition first = []
+attachments (suc count) seat condition first =
+    attachments count seat condition first ++ attachment seat condition (first + count) ∷ []
+
+-- a device that is created, behind one that has this lock below it
+pub record CreatesDevice (its : Section) (seat : ℕ) (condition : Option Condition) (words rest : List (List ℕ))
+    (below lock : ℕ) (old new : Members) : Type 0 where
+  pub driver : ℕ
+  pub named : Given
+  pub device : TakesDevice below words rest driver lock old.given named
+  pub is : new ≡ with_steps its (creation seat condition driver lock ∷ []) (with_given (with_device act.CreateDevice named) old)
+
+-- the devices of a stack, of which the first has a lock of its own
+pub record CreatesDevices (its : Section) (seat : ℕ) (condition : Option Condition) (words rest : List (List ℕ))
+    (old new : Members) : Type 0 where
+  pub count : ℕ
+  pub lock : ℕ
+  pub steps : List StepLine
+  pub given : Given
+  pub begins : next_of words ≡ codes "lock"
+  pub devices : TakeDevices count seat condition words rest lock steps old.given given
+  pub is : new ≡ with_steps its steps (with_given given old)
+
+-- a stack: its devices are created, and each above the first is attached to the one below it
+pub record IsStack (its : Section) (seat : ℕ) (condition : Option Condition) (words rest : List (List ℕ))
+    (old new : Members) : Type 0 where
+  pub created : Members
+  pub creates : CreatesDevices its seat condition words rest old created
+  pub is : new ≡ with_steps its
+      (attachments (created.given.devices - one_more old.given.devices) seat condition (one_more old.given.devices)) created
+
+abbrev pub SaysStack : Section → ℕ → Option Condition → List (List ℕ) → List (List ℕ) → Members → Members → Type 0
+SaysStack its seat condition words rest old new =
+    (next_of words ≡ codes "stack") × IsStack its seat condition (drop 1 words) rest old new
 
 -- the line of a step, which may have a name in `steps`, and has a seat and what it hangs on before its word
 abbrev pub TakesStepName : Section → ℕ → List (List ℕ) → List (List ℕ) → Given → Given → Type 0
@@ -238,7 +307,7 @@ SaysStep its words rest old new =
     (behind head : List (List ℕ)) × (given : Given) × (seat : ℕ) × (condition : Option Condition)
     × TakesStepName its (place_after old.steps) words behind old.given given
     × TakesHead behind head seat condition given
-    × (SaysAct its seat condition head rest (with_given given old) new ⊎ SaysStack its head (with_given given old) new)
+    × (SaysAct its seat condition head rest (with_given given old) new ⊎ SaysStack its seat condition head rest (with_given given old) new)
 
 -- the form, or a count
 abbrev pub with_count : Section → ℕ → Members → Members

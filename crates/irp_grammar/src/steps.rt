@@ -1,10 +1,10 @@
 //! Steps, each by its line, and a stack of devices in one line.
 
-ghost use Rattle.std.specs.Prelude.{[], ◌∷◌, ◌≡◌, ◌⊎◌, IfSome, OnSome};
+ghost use Rattle.std.specs.Prelude.{[], ◌∷◌, ◌≡◌, ◌⊎◌, ◌-◌, IfSome, OnSome};
 ghost use Rattle.irp_grammar.specs.Heads.{TakesSeat};
 ghost use Rattle.irp_grammar.specs.Lines.{ahead};
 ghost use Rattle.irp_grammar.specs.Reading as spec;
-ghost use Rattle.irp_grammar.specs.Reading.{AddsSteps, IsHeaded, OnlyGives, given_of, members_of, with_device, with_given, with_steps};
+ghost use Rattle.irp_grammar.specs.Reading.{CreatesDevice, CreatesDevices, IsHeaded, IsStack, OnlyGives, TakesDevice, TakesLock, attachment, attachments, given_of, members_of, with_device, with_given, with_steps};
 
 use crate::cursor::Cursor;
 use crate::members::add;
@@ -36,6 +36,16 @@ impl Head {
             condition: self.condition,
         }
     }
+}
+
+/// These two values.
+fn two(one: u64, other: u64) -> Values
+    ensures { result ≡ spec.two one other }
+{
+    let mut values = NONE;
+    values[0] = Value::Number(one);
+    values[1] = Value::Number(other);
+    values
 }
 
 impl<'a> Said<'a> {
@@ -81,24 +91,21 @@ impl<'a> Said<'a> {
 
     /// Attaches a device of a stack, which has this line, to the one below it.
     fn attach(&mut self, head: Head, device: u32, line: &Cursor<'a, '_>) -> Option<()>
-        ensures { OnSome result
-            (AddsSteps head.section (members_of self.old) (members_of self.new)) }
+        ensures { OnSome result (members_of self.new ≡ with_steps head.section
+            (attachment head.seat head.condition device ∷ []) (members_of self.old)) }
     {
-        let mut values = NONE;
-        values[0] = Value::Number(u64::from(device));
-        values[1] = Value::Number(u64::from(device.saturating_sub(1)));
+        let values = two(u64::from(device), u64::from(device.saturating_sub(1)));
         self.place(head.section, line)?;
-        self.add_step(head.section, head.step(ActKind::Attach, values))?;
-        Some(())
+        self.add_step(head.section, head.step(ActKind::Attach, values))
     }
 
-    /// Attaches the devices of a stack, from the second on, each to the one below it.
-    #[tactic(auto, using(crate::proofs::Adding::adds_both, crate::proofs::Adding::adds_none))]
-    fn attach_all(&mut self, head: Head, bottom: u32, line: &Cursor<'a, '_>) -> Option<()>
-        ensures { OnSome result
-            (AddsSteps head.section (members_of self.old) (members_of self.new)) }
+    /// Attaches the devices of a stack, from this one on, each to the one below it.
+    fn attach_all(&mut self, head: Head, first: u32, line: &Cursor<'a, '_>) -> Option<()>
+        ensures { OnSome result (members_of self.new ≡ with_steps head.section
+            (attachments (self.old.devices - first) head.seat head.condition first)
+            (members_of self.old)) }
     {
-        for device in bottom.saturating_add(1)..self.devices {
+        for device in first..self.devices {
             self.attach(head, device, line)?;
         }
         Some(())
@@ -107,27 +114,38 @@ impl<'a> Said<'a> {
     /// Takes the line of a stack: from the bottom up the drivers of its devices, each perhaps with a name, behind the
     /// lock that it and those above it have. It stands for the steps that create the devices, and those that attach
     /// each to the one below it.
-    #[tactic(auto, using(crate::proofs::Adding::adds_both))]
     fn take_stack(&mut self, head: Head, words: &mut Cursor<'a, '_>) -> Option<()>
-        ensures { OnSome result
-            (AddsSteps head.section (members_of self.old) (members_of self.new)) }
+        ensures { OnSome result (IsStack head.section head.seat head.condition (ahead words.old)
+            (ahead words.new) (members_of self.old) (members_of self.new)) }
     {
         let begin = *words;
-        let bottom = self.devices;
+        let above = self.devices.saturating_add(1);
         self.take_stack_devices(head, words)?;
-        self.attach_all(head, bottom, &begin)?;
-        Some(())
+        self.attach_all(head, above, &begin)
     }
 
-    /// Takes the driver of a stack's device, its lock where that is given, and its name.
-    fn take_stack_device(&mut self, values: &mut Values, words: &mut Cursor<'a, '_>) -> Option<()>
-        ensures { OnlyGives self.old self.new }
+    /// The lock that a device of a stack has: that behind `lock`, or that of the device below.
+    fn take_lock(&self, below: u64, words: &mut Cursor<'_, '_>) -> Option<u64>
+        ensures { IfSome result (TakesLock (given_of self.now).names below (ahead words.old)
+            (ahead words.new)) }
     {
         if words.takes("lock") {
-            values[1] = Value::Number(self.number(Part::Lock, words)?);
+            self.number(Part::Lock, words)
+        } else {
+            Some(below)
         }
-        values[0] = Value::Number(self.number(Part::Driver, words)?);
-        self.take_device_name(words)
+    }
+
+    /// Takes the lock and the driver of a stack's device, and its name.
+    fn take_stack_device(&mut self, below: u64, words: &mut Cursor<'a, '_>) -> Option<(u64, u64)>
+        ensures device { IfSome result (λ device. TakesDevice below (ahead words.old)
+            (ahead words.new) device.0 device.1 (given_of self.old) (given_of self.new)) }
+        ensures said { OnlyGives self.old self.new }
+    {
+        let lock = self.take_lock(below, words)?;
+        let driver = self.number(Part::Driver, words)?;
+        self.take_device_name(words)?;
+        Some((driver, lock))
     }
 
     /// Notes where a device of a stack begins; the first does where the line begins.
@@ -141,40 +159,41 @@ impl<'a> Said<'a> {
         }
     }
 
-    /// Takes the next device of a stack; the first stands where the line begins.
+    /// Takes the next device of a stack, and gives its lock; the first stands where the line begins.
     fn take_next_device(
         &mut self,
         head: Head,
         is_first: bool,
-        values: &mut Values,
+        below: u64,
         words: &mut Cursor<'a, '_>,
-    ) -> Option<()>
-        ensures { OnSome result
-            (AddsSteps head.section (members_of self.old) (members_of self.new)) }
+    ) -> Option<u64>
+        ensures { IfSome result (λ lock. CreatesDevice head.section head.seat head.condition
+            (ahead words.old) (ahead words.new) below lock (members_of self.old)
+            (members_of self.new)) }
     {
         self.place_next(head.section, is_first, words)?;
-        self.take_stack_device(values, words)?;
-        self.add_step(head.section, head.step(ActKind::CreateDevice, *values))?;
-        Some(())
+        let (driver, lock) = self.take_stack_device(below, words)?;
+        let step = head.step(ActKind::CreateDevice, two(driver, lock));
+        self.add_step(head.section, step)?;
+        Some(lock)
     }
 
     /// Takes the locks and the drivers of a stack.
-    #[tactic(auto, using(crate::proofs::Adding::adds_both, crate::proofs::Adding::adds_none))]
     fn take_stack_devices(&mut self, head: Head, words: &mut Cursor<'a, '_>) -> Option<()>
-        ensures { OnSome result
-            (AddsSteps head.section (members_of self.old) (members_of self.new)) }
+        ensures { OnSome result (CreatesDevices head.section head.seat head.condition
+            (ahead words.old) (ahead words.new) (members_of self.old) (members_of self.new)) }
     {
         if words.text() != "lock" {
             return words.fails(Wanted::StackLock);
         }
-        let mut values = NONE;
+        let mut lock = 0u64;
         for at in 0..words.left() {
-            self.take_next_device(head, at == 0, &mut values, words)?;
+            lock = self.take_next_device(head, at == 0, lock, words)?;
             if words.left() == 0 {
                 return Some(());
             }
         }
-        Some(())
+        None
     }
 
     /// The seat of a step, where the next words give it; else the first.
@@ -233,8 +252,8 @@ impl<'a> Said<'a> {
         ensures { OnSome result
             (spec.SaysAct head.section head.seat head.condition (ahead words.old) (ahead words.new)
             (members_of self.old) (members_of self.new)
-            ⊎ spec.SaysStack head.section (ahead words.old) (members_of self.old)
-            (members_of self.new)) }
+            ⊎ spec.SaysStack head.section head.seat head.condition (ahead words.old)
+            (ahead words.new) (members_of self.old) (members_of self.new)) }
     {
         if words.takes("stack") {
             self.take_stack(head, words)
