@@ -11,6 +11,7 @@ import sys
 from xml.etree import ElementTree
 
 import as_windows
+import host_files
 import mistakes
 import planted
 import reaching
@@ -470,8 +471,7 @@ def mistakes_told(bench, mistake):
 
 def missing_rules(names):
     """Returns the rules of the host that no case breaks, or that VERIFIER.md doesn't have, or None."""
-    with open(HERE + "/host/checks.c", encoding="utf-8") as it:
-        rules = re.findall(r'^    \{ "(\w+)", ', it.read(), re.M)
+    rules = re.findall(r'^    \{ "(\w+)", ', host_files.text("checks.c"), re.M)
     with open(HERE + "/VERIFIER.md", encoding="utf-8") as it:
         page = set(re.findall(r"^\| (\w+) \|", it.read(), re.M))
     with open(HERE + "/races/untested/pends.c", encoding="utf-8") as it: # see reaching.py

@@ -4,11 +4,24 @@
  * The host runs drivers, keeps a shadow of what docs/RULES.md knows of their packets and devices, and records entries.
  * It isn't trusted: `irpx check` judges what it recorded.
  *
+ * FOLDERS. A file stands in the folder of what it is about. No two files have one name, since places are told by names.
+ *   io/       packets and their locations, sends, completions, cancels, remove locks; devices, files, interrupts
+ *   ke/       threads and the host's lock; waits, spin locks and other locks; timers, deferred calls, work items, callbacks
+ *   mm/       pool, pages, MDLs, sections, DMA; memory that is refused; touches of pages that are closed
+ *   pnp/      the managers of Plug and Play and of power, the power framework; interfaces, links, properties of devices
+ *   ob/       objects, handles, names, security, registry
+ *   rtl/      text, printing, tracing, GUIDs, routines by name
+ *   win32/    the calls of Win32 that tests of Wine's make
+ *   record/   entries and the transcript, the files beside it; faults and last words, and the names in them
+ *   rules/    what docs/RULES.md refuses, and what Driver Verifier checks
+ *   explore/  schedules, the explorer, snapshots, races
+ *   test/     what stands for programs and other drivers: requests, situations, bottoms, cancels, the end of a test
+ *
  * LOCKING ORDER. From the outside in; nothing takes a lock that stands above one that it holds.
  *   1. the cancel spin lock (cancelling.c), which a driver may hold across calls of the host;
  *   2. G, the host's lock: enter_host takes it, leave_host gives it back. All of the shadow and the history is under
  *      it. It is never held while a driver's code runs: let_driver_run gives it back, driver_came_back takes it again;
- *   3. W (waits.c), under which events, timers, semaphores and mutexes change. Nothing is called under W.
+ *   3. W (dispatcher_objects.c), under which events, timers, semaphores and mutexes change. Nothing is called under W.
  * A driver's own spin locks are taken outside G. `self` is the thread's own and has no lock.
  *
  * WHEN AN ENTRY IS SETTLED. An entry gets its number when it is settled, always inside the real call:
@@ -30,7 +43,7 @@
 #include "wdm_trace.h"
 #include "wdm_guid.h"
 #include "wdm_test.h"
-#include "threads.h"
+#include "ke/threads.h"
 #include <signal.h>
 #include <stdio.h>
 #include <time.h>
@@ -188,7 +201,7 @@ struct Packet {
     bool writes_back, is_built; /* is_built: by the I/O manager, which frees it at its end */
     bool lends; /* mdl.c: its buffer and its MDL are for whoever had it built to free */
     PMDL lent;  /* the MDL */
-    bool threaded, failed_at_once; /* built.c: it is on the list of the thread that had it built; its end sets no event */
+    bool threaded, failed_at_once; /* built_packets_end.c: it is on the list of the thread that had it built; its end sets no event */
     const void *never_set;         /* which event that is */
     bool trapped, touch_untold, touched_by_sender;
     bool watched; /* watching.c: its page is closed, until somebody touches it */
@@ -273,7 +286,7 @@ extern uint64_t next_use;
 extern unsigned long host_activity; /* grows with each call, so that a wait sees whether anything goes on */
 extern _Atomic int packets_lost; /* that a dispatch neither finished, kept nor passed down, and nobody has completed since */
 
-/* telling.c, names.c */
+/* faults.c, function_names.c */
 const char *who(int device);
 const char *who_of(const Packet *p, int device);
 const char *who_calls(void);
@@ -304,7 +317,7 @@ bool is_code_of_one(const void *a, const void *b);
 unsigned long place_in_program(const void *address);
 const char *major_name(int major);
 
-/* recording.c, writing.c */
+/* recording.c, transcript.c */
 Entry *begin(Op op, Packet *p, int by);
 void seal(Entry *e, bool cancel);
 void number_sends_through(int d);
@@ -317,12 +330,12 @@ void look(Packet *p);
 void record_word(const char *act, int lock, PVOID tag, const char *reply, int by, int to);
 extern const char *const op_names[];
 
-/* rules.c: the one place that knows which call is refused. A question there is one that irp_live could be asked. */
+/* refusals.c: the one place that knows which call is refused. A question there is one that irp_live could be asked. */
 const char *rules_refusal(const Entry *call);
 bool rules_completable(ULONG status);
 int rules_stack_size(int device);
 
-/* threads.c, waits.c, work.c, work_items.c */
+/* threads.c, dispatcher_objects.c, timers_and_dpcs.c, work_items.c */
 void enter_host(Call *c, const char *name, WDM_SITE at);
 void enter_quietly(Call *c, const char *name, WDM_SITE at);
 void hold_host(const char *call, const void *object, Touch how);
@@ -401,8 +414,8 @@ bool dispatch_has_it_back(Packet *p, Frame *routine);
 bool will_wait(const Packet *p, const Frame *dispatch);
 NTSTATUS forward_in_place(Packet *p, int device);
 
-#include "checks.h"
-#include "placing.h"
-#include "told.h"
+#include "rules/checks.h"
+#include "record/entry_places.h"
+#include "record/told.h"
 
 #endif
