@@ -76,6 +76,8 @@ def tests(bench, names_of, complaint):
     program = bench.build(folder, [HERE + "/rules"])
     places, names = lines_told(), names_of(program)
     for case in names:
+        if not bench.wants(f"rule {case}, broken", f"rule {case}, kept"):
+            continue
         settings = SETTINGS.get("_" + case.partition("_")[2], {})
         wrong = BySchedule(bench, case) if case in BY_SCHEDULE else \
             bench.run(folder, program, args=f"{case} wrong", patience=1, settings=settings)

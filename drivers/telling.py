@@ -101,7 +101,7 @@ def misused(bench):
     folder = bench.folder("misuse")
     program = bench.build(folder, [HERE + "/misuse"])
     misuses = names_of(program)
-    for case in misuses:
+    for case in filter(lambda it: bench.wants(f"misuse {it}"), misuses):
         run = bench.run(folder, program, args=case, patience=1)
         yield f"misuse {case}", wrong_misuse(case, run)
     made = bench.ran("--shake", "1", "--args", "Stuck", HERE + "/misuse")

@@ -9,6 +9,7 @@
  * choice left, and ends.
  */
 #include "explore/snapshots.h"
+#include "record/record.h"
 
 bool is_exploring;
 static int spent; /* preemptions and early timers of this run so far */

@@ -1,5 +1,6 @@
 /* coroutines.c: a stack for each thread that goes by a schedule, and how one thread goes on in place of another. */
 #include "explore/schedule.h"
+#include "record/record.h"
 #include <sys/mman.h>
 
 enum { STACK = 256 * 1024 };

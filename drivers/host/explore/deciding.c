@@ -1,5 +1,6 @@
 /* deciding.c: which choice is made: as a schedule says, by chance, or each of them (choices.c). */
-#include "explore/explore.h"
+#include "explore/exploration.h"
+#include "record/record.h"
 
 Schedule followed;
 int n_decisions;

@@ -6,6 +6,8 @@
  * has the places in lines that change what they read, as `x += 1`. `run` sets them, and reads the report.
  */
 #include "explore/snapshots.h"
+#include "record/record.h"
+#include "test/test.h"
 #include <fcntl.h>
 #include <sys/mman.h>
 #include <sys/wait.h>
@@ -28,12 +30,6 @@ static double seconds(void)
     return (double)t.tv_sec + (double)t.tv_nsec / 1e9;
 }
 
-static long number(const char *name, long otherwise)
-{
-    const char *text = getenv(name);
-    return text && *text ? strtol(text, NULL, 10) : otherwise;
-}
-
 /* A place whose access was seen to race is a point from the next start on. */
 void place_races(uint32_t place)
 {
@@ -54,7 +50,7 @@ bool is_update(uint32_t place) { return place && shared && shared->is_update[(ui
 
 static void learn_updates(void)
 {
-    const char *at = getenv("WDM_UPDATES");
+    const char *at = options.updates;
     for (char *end; at && *at; at = *end ? end + 1 : end)
         shared->is_update[(uint16_t)strtoul(at, &end, 16)] = 1;
 }
@@ -199,7 +195,7 @@ static void end_exploration(Ended ended)
     static const int statuses[] = { 0, 1, 3 };
     tell_outcomes();
     tell_places();
-    write_classes(getenv("WDM_CLASSES"));
+    write_classes(options.classes);
     fprintf(report, "restarts %d\nmost_decisions %lu\nmost_points %lu\nfailed_runs %lu\n", n_restarts,
             shared->most_decisions, shared->most_points, shared->n_failed);
     if (shared->n_limited)
@@ -243,7 +239,7 @@ static void run_first(void)
 /* With WDM_FURTHER one more preemption is allowed, where all so far took less than a second. */
 static bool goes_further(int bound, int most)
 {
-    return bound == most + 1 && number("WDM_FURTHER", 0) && seconds() - began < 1;
+    return bound == most + 1 && options.goes_further && seconds() - began < 1;
 }
 
 /* Returns in the processes that go on into `main`. */
@@ -279,30 +275,30 @@ static void explore_all(int most)
 static const char *why_forks(void)
 {
     extern void __gcov_dump(void) __attribute__((weak));
-    if (getenv("WDM_FORKS"))
-        return getenv("WDM_FORKS");
+    if (options.forks)
+        return options.forks;
     if (!can_make_snapshots())
         return "this machine's processor isn't an x86-64";
-    if (getenv("WDM_PAGE_ENDS"))
+    if (options.page_ends)
         return "pages that pool blocks end at aren't put back";
     return __gcov_dump ? "counts of lines that ran would be put back" : NULL;
 }
 
 static void set_up(void)
 {
-    const char *path = getenv("WDM_REPORT");
+    const char *path = options.report;
     shared = share(sizeof *shared);
     make_set(&shared->states);
     make_set(&shared->classes);
     make_set(&shared->transcripts);
     shared->outcomes = share(MAX_OUTCOMES * sizeof *shared->outcomes);
-    shared->processes = (int)number("WDM_PROCESSES", sysconf(_SC_NPROCESSORS_ONLN));
-    shared->reduces = number("WDM_REDUCE", 1) && hooks_present;
-    shared->goes_on = number("WDM_GO_ON", 0);
+    shared->processes = (int)options.processes;
+    shared->reduces = options.reduces && hooks_present;
+    shared->goes_on = options.goes_on;
     make_forks(why_forks());
-    shared->part = (int)number("WDM_PART", 0);
-    shared->parts = (int)number("WDM_PARTS", 0);
-    most_seconds = (double)number("WDM_SECONDS", 0);
+    shared->part = (int)options.part;
+    shared->parts = (int)options.parts;
+    most_seconds = (double)options.seconds;
     learn_updates();
     report = path ? fopen(path, "w") : NULL;
     began = seconds();
@@ -311,7 +307,7 @@ static void set_up(void)
 
 static void explore(void)
 {
-    const char *bound = getenv("WDM_EXPLORE"), *text = getenv("WDM_SCHEDULE"), *seed = getenv("WDM_CHANCE");
+    const char *bound = options.explore, *text = options.schedule, *seed = options.chance;
     static Schedule s;
     if (!bound && !text && !seed)
         return;

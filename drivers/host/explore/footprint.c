@@ -6,7 +6,8 @@
  * as what they are in each order: a packet by the thread that allocated it and how many that had before.
  */
 #include "explore/schedule.h"
-#include "explore/explore.h"
+#include "mm/mm.h"
+#include "record/record.h"
 #include <sys/mman.h>
 
 bool footprints, hooks_present;

@@ -1,5 +1,6 @@
 /* forking.c: the processes of an exploration: one for each choice, or some that go back to snapshots. */
 #include "explore/snapshots.h"
+#include "record/record.h"
 #include <errno.h>
 #include <sys/mman.h>
 #include <sys/prctl.h>

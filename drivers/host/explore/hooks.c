@@ -4,7 +4,8 @@
  * An atomic access is a scheduling point; a plain one is where its place in the program was seen to race. This file is
  * linked only where `run` follows, makes or explores schedules.
  */
-#include "explore/explore.h"
+#include "explore/exploration.h"
+#include "mm/mm.h"
 
 extern char __executable_start;
 

@@ -5,6 +5,7 @@
  * forks. The rest of what a program can change there, `run` sees by the functions that it calls (orders.py).
  */
 #include "explore/snapshots.h"
+#include "mm/mm.h"
 #include <sys/resource.h>
 #include <sys/stat.h>
 

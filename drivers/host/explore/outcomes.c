@@ -1,6 +1,7 @@
 /* outcomes.c: how a run by a schedule ended: its class, its transcript, its outcome by packet, and why it fails. */
-#include "explore/explore.h"
-#include "record/transcript.h"
+#include "explore/exploration.h"
+#include "io/io.h"
+#include "record/record.h"
 #include <fcntl.h>
 #include <unistd.h>
 
@@ -39,7 +40,7 @@ static uint64_t hash_of(const char *text, size_t length)
 /* A transcript that no run had before goes behind the others: a line with its schedule, its own lines, and an empty one. */
 static void keep_transcript(uint64_t hash)
 {
-    const char *path = getenv("WDM_ORDERS");
+    const char *path = options.orders;
     char *text = NULL;
     size_t length = 0;
     if (!path || !put_in(&shared->transcripts, hash))
@@ -69,7 +70,7 @@ static int by_name(const void *a, const void *b)
 
 static size_t put_packet(char *text, size_t room, const Packet *p)
 {
-    if (p->rides)
+    if (p->stands_in.of)
         return 0;
     return (size_t)snprintf(text, room, "%s %#x%s%s; ", p->sites.sent.file ? major_name(p->major) : "never sent",
                             p->status, p->cancel ? ", with Irp->Cancel set" : "",

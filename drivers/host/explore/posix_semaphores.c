@@ -1,5 +1,7 @@
 /* posix_semaphores.c: semaphores, locks for readers and writers, and waits with a limit, of a test; as posix_threads.c. */
-#include "explore/schedule.h"
+#include "explore/explore.h"
+#include "ke/ke.h"
+#include "record/record.h"
 #include <errno.h>
 #include <semaphore.h>
 #include <time.h>

@@ -1,5 +1,7 @@
 /* posix_threads.c: what a test calls of the system's threads. Under a schedule `run` renames the calls to these. */
 #include "explore/schedule.h"
+#include "ke/ke.h"
+#include "record/record.h"
 #include <sched.h>
 #include <unistd.h>
 

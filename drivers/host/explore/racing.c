@@ -4,8 +4,9 @@
  * A place of the program whose access was seen to race is a scheduling point from the next run on. Accesses to memory
  * that nothing orders otherwise thus meet in each order, and accesses under locks cost nothing.
  */
-#include "explore/schedule.h"
-#include "explore/explore.h"
+#include "explore/exploration.h"
+#include "record/record.h"
+#include "rules/rules.h"
 
 typedef struct {
     const void *key;

@@ -1,5 +1,8 @@
 /* schedule.c: threads as coroutines on one thread of the system, and time that passes only where it is chosen. */
 #include "explore/schedule.h"
+#include "ke/ke.h"
+#include "record/record.h"
+#include "rules/rules.h"
 
 enum { MOST_STUCK = 50, MOST_SPINS = 100 };
 enum { OVERDUE_SECONDS = 60, OVERDUE_POINTS = 20000, LOOK_EVERY = 1024 }; /* after which a wait is overdue */
@@ -74,10 +77,7 @@ static bool can_go_on(const Thread *t)
    DISPATCH_LEVEL goes on while somebody is there. */
 bool is_one_processor(void)
 {
-    static int is_so = -1;
-    if (is_so < 0)
-        is_so = getenv("WDM_ONE_PROCESSOR") != NULL;
-    return is_so > 0;
+    return options.has_one_processor;
 }
 
 static KIRQL level_at(int t) { return t == running ? self.irql : threads[t].self.irql; }

@@ -8,34 +8,22 @@
 #ifndef DRIVERS_SCHEDULE_H
 #define DRIVERS_SCHEDULE_H
 
-#include "host.h"
+#include "explore/explore.h"
 
-enum { FEW_THREADS = 8, MAX_THREADS = 32, MAX_DEVIATIONS = 4096, MAX_SWITCHES = 1 << 14, USUAL_POINTS = 3000000 };
+enum { FEW_THREADS = 8, MAX_THREADS = 32, MAX_DEVIATIONS = 4096, MAX_SWITCHES = 1 << 14 };
 typedef enum { AT_POINT, AT_YIELD, AT_WAIT, AT_END } Stop;
 
 /* schedule.c: the coroutines. */
-extern bool by_schedule;
-int current_thread(void);
-LONGLONG virtual_now(void);
-bool is_one_processor(void);
 void begin_schedule(void);
-Woken wait_by_schedule(const Wait *w);
-void point_by_schedule(const char *what, WDM_SITE at, const void *pc);
-void yield_by_schedule(const char *what);
-int start_by_schedule(void *(*run)(void *), void *context, const char *kind, void *fn, const Wait *first);
-__attribute__((noreturn)) void end_by_schedule(void *result);
 bool has_ended(int thread, void **result);
 void after_end_of(int thread);
-void let_thread_go(int thread); /* its end isn't asked for any more: once it has ended, another one gets its place */
 const char *thread_name(int thread);
 int points_of_run(void);
 int threads_of_run(void);
-void tell_threads(void);
 
 /* coroutines.c */
 void map_stacks(void); /* of all threads that there may be */
 void note_main_stack(void);
-void stack_by_schedule(int thread, uintptr_t *low, uintptr_t *high);
 void make_coroutine(int thread, void (*begin)(void));
 void switch_coroutines(int from, int to);
 
@@ -67,34 +55,19 @@ void tell_story(FILE *out);
 
 /* footprint.c: what came before what. Two runs whose states are equal differ in nothing but the order of what can change
    places. */
-extern bool footprints;
 void look_no_further(const char *why);
 uint64_t state_of(int n_threads);
 uint64_t state_of_run(void);
-void passed(const char *what, int line);
 void thread_born(int parent, int child);
 void time_passed_for(int thread, const LONGLONG *clock);
 void clock_read_by(int thread, const LONGLONG *clock);
-uint64_t next_name(void);
 void map_host_memory(void);
 
 /* racing.c: which plain accesses race, by what happened before what; and memory that was let go. */
 void clocks_born(int parent, int child);
 void clocks_meet(uint32_t *of_few, uint32_t *of_others, Touch how);
-void access_to(const void *cell, bool writes, const void *pc, bool is_plain);
-
-/* threads.c, limits.c */
-void give_seat_back(void);
-int most_points(void); /* that a run may have */
-
-/* faults.c, outcomes.c */
-void be_silent(void);
-void note_fault(const char *text);
-__attribute__((noreturn)) void end_run(int status);
 
 /* hooks.c */
 extern bool hooks_present;
-const void *packet_page(const void *address);
-uint64_t packet_name(const void *address);
 
 #endif

@@ -5,7 +5,7 @@
  * its rows that was free when it came. Nothing is taken out or moved, so a process that looks at its rows in this order
  * comes to it, or to a free place, whatever others put in meanwhile.
  */
-#include "explore/explore.h"
+#include "explore/exploration.h"
 #include <sys/mman.h>
 #include <unistd.h>
 

@@ -6,6 +6,8 @@
  * snapshot any more. So a process makes all orders, one behind the other, as forks would make them.
  */
 #include "explore/snapshots.h"
+#include "mm/mm.h"
+#include "record/record.h"
 #include <errno.h>
 #include <malloc.h>
 #include <setjmp.h>

@@ -8,24 +8,19 @@
 #ifndef DRIVERS_SNAPSHOTS_H
 #define DRIVERS_SNAPSHOTS_H
 
-#include "explore/explore.h"
-#include <signal.h>
+#include "explore/exploration.h"
 
 /* snapshots.c */
-extern bool by_snapshots;
 bool can_make_snapshots(void);           /* on this machine */
 void begin_snapshots(void);              /* in the first process of a round, before anything is tracked */
 int make_each(const ToMake *all, int n); /* returns, once for each, which of them this run goes on with */
-void go_back_if_any(void);               /* a run has ended: where choices are left, doesn't return */
 bool may_share_out(void);
 __attribute__((noreturn)) void take_eldest(void); /* in a process that was just forked: it makes one choice that is left there */
 void leave_eldest(void);                 /* in the other one */
-void chain_handler(void (*handler)(int, siginfo_t *, void *)); /* of faults that aren't for snapshots */
 
 /* tracking.c */
 typedef struct Version Version;          /* what a page had in it: of all snapshots that have the same */
 typedef struct { Version **versions; int n, room; } Pages;
-void *kept_apart(size_t size);           /* zeros, in memory that isn't put back */
 bool is_kept_apart(const void *address);
 bool is_tracked(const void *address);
 bool opens_page(void *address);          /* at a fault: whether it was a closed page, which is open now */
@@ -35,17 +30,6 @@ void save_pages(Pages *pages);
 void put_pages_back(const Pages *pages);
 void close_rare_pages(Pages *eldest);    /* where that is the only snapshot */
 __attribute__((noreturn)) void lose_process(void); /* it can't do what it has to: all is made again by forks (explorer.c) */
-
-/* packet_pages.c */
-typedef struct { char *bytes; uint8_t *states; uint64_t *stamps; int n, room; } PacketPages;
-void begin_packet_pages(void);
-void track_packets(char *arena);
-bool is_packet_page_open(size_t page);
-void packet_page_opens(size_t page);     /* it is open by now */
-void packet_page_closes(size_t page);    /* before it closes */
-bool is_packets_page(const char *address);
-void save_packet_pages(PacketPages *pages);
-void put_packet_pages_back(const PacketPages *pages);
 
 /* left_in_system.c */
 typedef struct { char *from, *to; uint8_t *is_hot; } Region;

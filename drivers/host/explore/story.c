@@ -1,5 +1,6 @@
 /* story.c: a run's schedule as text, and as who gave way to whom and where. */
-#include "explore/explore.h"
+#include "explore/exploration.h"
+#include "record/record.h"
 
 typedef struct {
     const char *from, *to; /* threads by their names: a place may be another one's later */

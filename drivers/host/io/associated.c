@@ -4,7 +4,11 @@
  * The I/O manager frees an associated packet at its end, and completes its master with the last of them. In the record
  * the master is completed by the device that holds it.
  */
-#include "host.h"
+#include "io/own.h"
+#include "ke/ke.h"
+#include "mm/mm.h"
+#include "record/record.h"
+#include "rules/rules.h"
 
 bool is_associated(const Packet *p) { return (p->irp->Flags & IRP_ASSOCIATED_IRP) != 0; }
 
@@ -42,7 +46,7 @@ void associated_ended(Packet *p)
 /* Whether it was allocated and not prepared yet: only then may its topmost location become its allocator's own. */
 static bool is_fresh(const Packet *p)
 {
-    return lives(p) && p->owner == ORIGINATOR && p->current == p->size + 1 && p->prep == NOTHING;
+    return lives(p) && p->owner == ORIGINATOR && p->current == p->size + 1 && p->next.how == NOTHING;
 }
 
 /* The packet's topmost location is its allocator's own from now on: the record's packet begins below it. */
@@ -54,7 +58,7 @@ static void give_own_location(Packet *p)
             break;
         }
     p->current = p->size + 1;
-    p->scratch = true;
+    p->has_own_location = true;
     put_back(p);
 }
 
@@ -63,9 +67,9 @@ VOID WdmIoSetNextIrpStackLocation(PIRP Irp, WDM_SITE at)
     Call c;
     enter_host(&c, "IoSetNextIrpStackLocation", at);
     Packet *p = find(Irp);
-    if (!is_fresh(p) || (!p->scratch && p->size < 2))
+    if (!is_fresh(p) || (!p->has_own_location && p->size < 2))
         fault("TooShort", p, "has no location to spare for its allocator: allocate one more than the target's StackSize");
-    else if (!p->scratch)
+    else if (!p->has_own_location)
         give_own_location(p);
     leave_host();
 }
@@ -74,10 +78,10 @@ VOID WdmIoSetNextIrpStackLocation(PIRP Irp, WDM_SITE at)
 void take_own_location(Packet *p)
 {
     const PIRP irp = p->irp;
-    if (is_fresh(p) && !p->scratch && p->size > 1 && irp->CurrentLocation == p->current - 1 &&
+    if (is_fresh(p) && !p->has_own_location && p->size > 1 && irp->CurrentLocation == p->current - 1 &&
         irp->Tail.Overlay.CurrentStackLocation == raw_at(p, p->current - 1))
         give_own_location(p);
 }
 
 /* The device that the allocator wrote into its own location, which its routine is called with; or NULL. */
-PDEVICE_OBJECT own_device(Packet *p) { return p->scratch ? raw_at(p, p->size + 1)->DeviceObject : NULL; }
+PDEVICE_OBJECT own_device(Packet *p) { return p->has_own_location ? raw_at(p, p->size + 1)->DeviceObject : NULL; }

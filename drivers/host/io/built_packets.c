@@ -1,5 +1,8 @@
 /* built_packets.c: packets that the I/O manager and the power manager make for a driver, and free at their end. */
-#include "host.h"
+#include "explore/explore.h"
+#include "ke/ke.h"
+#include "mm/mm.h"
+#include "pnp/pnp.h"
 
 typedef struct {
     PREQUEST_POWER_COMPLETE complete;
@@ -17,11 +20,11 @@ static void write_back(PIRP irp, PVOID to, ULONG room)
     irp->UserBuffer = to;
     enter_host(&c, "IoBuild", nowhere);
     Packet *p = find(irp);
-    p->writes_back = true;
+    p->buffer.writes_back = true;
     irp->RequestorMode = KernelMode; /* a driver's */
     irp->Flags &= (ULONG)(IRP_BUFFERED_IO | IRP_DEALLOCATE_BUFFER | IRP_INPUT_OPERATION);
-    p->threaded = irp->UserEvent != NULL;
-    p->room = room;
+    p->built.is_threaded = irp->UserEvent != NULL;
+    p->buffer.room = room;
     leave_host();
 }
 

@@ -1,5 +1,5 @@
 /* cancel_safe_queues.c: cancel-safe queues (IoCsq), over the host's own calls. The queue and its lock are the driver's. */
-#include "host.h"
+#include "ke/ke.h"
 
 static const WDM_SITE nowhere;
 

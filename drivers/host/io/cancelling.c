@@ -1,5 +1,9 @@
 /* cancelling.c: cancel routines, IoCancelIrp, the cancel spin lock. */
-#include "host.h"
+#include "io/own.h"
+#include "ke/ke.h"
+#include "mm/mm.h"
+#include "record/record.h"
+#include "rules/rules.h"
 
 static KSPIN_LOCK cancel_lock;
 
@@ -9,9 +13,9 @@ const char *none_taken(const Packet *p)
 {
     static _Thread_local char text[240];
     *text = 0;
-    if (p && p->ran && p->sites.none_taken.file)
+    if (p && p->called && p->sites.none_taken.file)
         snprintf(text, sizeof text, "; IoSetCancelRoutine at %s returned NULL: %s had begun", place(p->sites.none_taken),
-                 function_name((void *)p->ran));
+                 function_name((void *)p->called));
     return text;
 }
 
@@ -45,7 +49,7 @@ PDRIVER_CANCEL WdmIoSetCancelRoutine(PIRP Irp, PDRIVER_CANCEL Routine, WDM_SITE 
         leave_host();
         return old;
     }
-    if (f && !p->skipped) {
+    if (f && !p->next.skipped) {
         old = f->cancel;
         f->cancel = Irp->CancelRoutine = Routine;
     } else if (p->ghost || (own && own == p->asking && !Routine && !p->routine)) {
@@ -70,7 +74,7 @@ PDRIVER_CANCEL WdmIoSetCancelRoutine(PIRP Irp, PDRIVER_CANCEL Routine, WDM_SITE 
             p->routine = Irp->CancelRoutine = Routine;
         }
     }
-    if (!Routine && !old && lives(p) && p->ran)
+    if (!Routine && !old && lives(p) && p->called)
         p->sites.none_taken = at;
     leave_host();
     return old;
@@ -107,8 +111,8 @@ static bool is_over(const Request *r) { return r && (!lives(r->p) || r->p->use !
 /* The packet that stands in for it, in its memory. */
 static Packet *rider_of(Packet *p)
 {
-    while (p->rider)
-        p = p->rider;
+    while (p->stands_in.by)
+        p = p->stands_in.by;
     return p;
 }
 
@@ -137,7 +141,7 @@ static void cancel_ridden(Packet *p)
 {
     if (!p)
         return;
-    cancel_ridden(p->rides);
+    cancel_ridden(p->stands_in.of);
     if (lives(p)) {
         p->cancel = true;
         answered(begin(CANCEL, p, ORIGINATOR), CANCELLED, 0);
@@ -149,7 +153,7 @@ static void run_cancel_routine(Packet *p, Entry *e, KIRQL irql)
     PDRIVER_CANCEL routine = p->routine;
     const int d = p->owner;
     p->routine = p->irp->CancelRoutine = NULL;
-    p->ran = routine;
+    p->called = routine;
     p->irp->CancelIrql = irql;
     Frame f = { .kind = CANCELLING, .p = p, .use = p->use, .fn = (void *)routine, .device = d, .location = p->current,
                 .e = e, .i = ask(e, p, CANCELLING, (void *)routine, d, p->current), .before = irql };
@@ -181,7 +185,7 @@ static BOOLEAN cancel(Packet *p, KIRQL irql)
         refuse(e, no);
         return FALSE;
     }
-    cancel_ridden(p->rides);
+    cancel_ridden(p->stands_in.of);
     /* A routine that a dispatch has set by now: the hold comes before the cancel. One that came after an earlier cancel
        is for its driver to take back, as if this cancel came a moment later. */
     if (!p->cancel && p->asking && p->asking->kind == DISPATCH && p->asking->cancel)

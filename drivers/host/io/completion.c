@@ -1,5 +1,9 @@
 /* completion.c: IoCompleteRequest, and the unwinding with its completion routines. */
-#include "host.h"
+#include "io/own.h"
+#include "ke/ke.h"
+#include "mm/mm.h"
+#include "record/record.h"
+#include "rules/rules.h"
 
 static bool is_met(const Packet *p, const Setting *set)
 {
@@ -23,7 +27,7 @@ static void end(Packet *p, Entry *e)
     file_request_ended(p);
     if (is_associated(p))
         associated_ended(p);
-    else if (!p->is_built && !(p->irp->UserIosb && !p->status_is_gone && is_in_page(p->irp)))
+    else if (!p->built.by_manager && !(p->irp->UserIosb && !p->built.status_gone && is_in_page(p->irp)))
         fault("NotKept", p, "has ended, and no routine kept it for %s", who_of(p, ORIGINATOR));
     unwatch(p);
     shut(p);
@@ -37,7 +41,7 @@ static void end(Packet *p, Entry *e)
 static bool mark_of(Packet *p, const Frame *f, bool returned, bool had)
 {
     const bool needs = returned && f->device >= 0;
-    if (f->marked == needs || had || (p->scratch && f->device < 0)) /* in its own location it may mark, or not */
+    if (f->marked == needs || had || (p->has_own_location && f->device < 0)) /* in its own location it may mark, or not */
         return needs;
     fault_of("Mark", p, f, "%s, and Irp->PendingReturned is %s", f->marked ? "marks" : "doesn't mark",
              returned ? "TRUE" : "FALSE");
@@ -116,7 +120,7 @@ static void unwind(Packet *p, Entry *e)
         p->irp->PendingReturned = p->returned = l.pending;
         p->irp->CurrentLocation = (CHAR)(j + 1);
         p->irp->Tail.Overlay.CurrentStackLocation = raw_at(p, j + 1);
-        if (p->rides && j == p->size) {
+        if (p->stands_in.of && j == p->size) {
             rider_came_up(p, e);
             return;
         }
@@ -127,7 +131,7 @@ static void unwind(Packet *p, Entry *e)
             set_pending_bit(p, j + 1, l.real);
         }
         clear_location(p, j);
-        p->touched = false;
+        p->next.touched = false;
         p->current = j + 1;
         if (j == p->size) {
             end(p, e);
@@ -146,7 +150,7 @@ void finish(Packet *p, Entry *e, ULONG status, uint64_t information)
 }
 
 /* A dispatch or a cancel routine that is asked finishes the packet. */
-void finish_asked(Packet *p, Frame *f, ULONG status, uint64_t information)
+static void finish_asked(Packet *p, Frame *f, ULONG status, uint64_t information)
 {
     Asked *a = &f->e->asked[f->i];
     f->settled = true;
@@ -162,7 +166,7 @@ void finish_asked(Packet *p, Frame *f, ULONG status, uint64_t information)
 static void tell_unmarked(Packet *p, int by)
 {
     Location *l = &p->at[p->current];
-    if (by < 0 || p->prep == SKIPPED || l->real || l->told)
+    if (by < 0 || p->next.how == SKIPPED || l->real || l->told)
         return;
     if (l->frame)
         l->frame->completed_unmarked = true;
@@ -248,7 +252,7 @@ VOID WdmIoCompleteRequest(PIRP Irp, WDM_SITE at)
         mine->finished = true;
         mine->done = status;
     }
-    if (f && f->kind == DISPATCH && p->skipped)
+    if (f && f->kind == DISPATCH && p->next.skipped)
         take_skip_back(p);
     if (f && f->kind == DISPATCH && !f->marked && !f->cancel && good) {
         n_early += !is_this_thread(f->thread); /* its dispatch runs on, and will return this status */

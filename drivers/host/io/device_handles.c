@@ -1,5 +1,7 @@
 /* device_handles.c: handles of devices that drivers open by name: each is a file object. */
-#include "host.h"
+#include "io/io.h"
+#include "ob/ob.h"
+#include "pnp/pnp.h"
 
 static const WDM_SITE nowhere;
 

@@ -1,5 +1,6 @@
 /* device_timers.c: a device's own timer (IoInitializeTimer), over the host's timers. */
-#include "host.h"
+#include "explore/explore.h"
+#include "ke/ke.h"
 
 typedef struct DeviceTimer {
     KTIMER timer;

@@ -1,5 +1,13 @@
 /* devices.c: device objects and their stacks. */
-#include "host.h"
+#include "io/own.h"
+#include "explore/explore.h"
+#include "ke/ke.h"
+#include "mm/mm.h"
+#include "ob/ob.h"
+#include "pnp/pnp.h"
+#include "record/record.h"
+#include "rules/rules.h"
+#include "test/test.h"
 
 Device devices[MAX_DEVICES];
 int n_devices;
@@ -50,7 +58,7 @@ PDEVICE_OBJECT WdmIoAttachDevice(PDEVICE_OBJECT Device, PDEVICE_OBJECT Target, W
     while (devices[top].upper >= 0)
         top = devices[top].upper;
     const char *no = rules_refusal(e);
-    const bool is_early = !no && devices[top].raw->Flags & DO_DEVICE_INITIALIZING && !getenv("WDM_WINE");
+    const bool is_early = !no && devices[top].raw->Flags & DO_DEVICE_INITIALIZING && !options.is_wines;
     if (no)
         refuse(e, no);
     else if (is_early) {
@@ -380,5 +388,3 @@ VOID WdmIoDeleteDevice(PDEVICE_OBJECT Device, WDM_SITE at)
     }
     leave_host();
 }
-
-VOID IoInvalidateDeviceState(PDEVICE_OBJECT Device) { (void)Device; }

@@ -4,7 +4,13 @@
  * its CLOSE. CLEANUP comes when its handle is closed, whatever is pending; CLOSE once none of its requests and no reference
  * is left.
  */
-#include "host.h"
+#include "io/io.h"
+#include "explore/explore.h"
+#include "ke/ke.h"
+#include "ob/ob.h"
+#include "record/record.h"
+#include "rules/rules.h"
+#include "test/test.h"
 
 enum { MAX_FILES = 4096 };
 typedef struct { PFILE_OBJECT file; int seat; WDM_SITE opened; bool is_open, is_closing; } Opened;
@@ -74,7 +80,7 @@ PFILE_OBJECT file_for(PDEVICE_OBJECT top, UCHAR major, WDM_SITE at)
 /* A request of the I/O manager's has ended. Under G. */
 void file_request_ended(const Packet *p)
 {
-    Opened *o = p->is_built && (p->major == IRP_MJ_CREATE || p->major == IRP_MJ_CLOSE) ? opened(p->file) : NULL;
+    Opened *o = p->built.by_manager && (p->major == IRP_MJ_CREATE || p->major == IRP_MJ_CLOSE) ? opened(p->file) : NULL;
     if (!o)
         return;
     touch(o->file->DeviceObject, WRITES);
@@ -121,7 +127,7 @@ static Packet *request_of(const FILE_OBJECT *file, int *from)
 {
     for (int i = *from; i < n_packets; i++) {
         Packet *p = packets[i];
-        if (file && lives(p) && p->file == file && p->is_built && (p->owner != ORIGINATOR || p->asking) &&
+        if (file && lives(p) && p->file == file && p->built.by_manager && (p->owner != ORIGINATOR || p->asking) &&
             p->major != IRP_MJ_CREATE && p->major != IRP_MJ_CLEANUP && p->major != IRP_MJ_CLOSE) {
             *from = i + 1;
             return p;

@@ -6,7 +6,11 @@
  * memory of the packet that it rides for, from the next lower location down. What happens below is recorded of the
  * rider. It comes up to the originator, which keeps and frees it; then the ridden packet goes on as its device says.
  */
-#include "host.h"
+#include "io/own.h"
+#include "ke/ke.h"
+#include "mm/mm.h"
+#include "record/record.h"
+#include "rules/rules.h"
 
 /* What stands in the record for whatever the device does when the rider is up. */
 static NTSTATUS WdmSentInPlace(PDEVICE_OBJECT DeviceObject, PIRP Irp, PVOID Context)
@@ -27,12 +31,12 @@ static Packet *new_rider(Packet *p, int size, UCHAR major, uint64_t word, Settin
     r->use = next_use++;
     r->current = size + 1;
     r->owner = r->last = ORIGINATOR;
-    r->rides = p;
+    r->stands_in.of = p;
     r->sites = p->sites;
-    r->stack_count = p->stack_count;
+    r->kept.stack_count = p->kept.stack_count;
     for (int j = 1; j <= size; j++)
         r->at[j] = (Location){ .device = NOBODY };
-    p->rider = r;
+    p->stands_in.by = r;
     e->p = r;
     e->slot = r->slot;
     e->use = r->use;
@@ -55,7 +59,7 @@ static Packet *new_rider(Packet *p, int size, UCHAR major, uint64_t word, Settin
     e->set = set;
     answered(e, DONE, 0);
     r->at[size] = (Location){ .device = NOBODY, .major = major, .word = word, .set = set };
-    r->prep = FILLED;
+    r->next.how = FILLED;
     return r;
 }
 
@@ -70,9 +74,9 @@ static NTSTATUS send_rider(Packet *r, int d)
         answered(begin(FREE, r, ORIGINATOR), DONE, 0);
         r->live = false;
         n_live--;
-        r->rides->rider = NULL;
-        r->up = NULL;
-        put_back(r->rides);
+        r->stands_in.of->stands_in.by = NULL;
+        r->stands_in.up = NULL;
+        put_back(r->stands_in.of);
         return STATUS_INVALID_DEVICE_REQUEST;
     }
     const NTSTATUS answer = enter_device(r, d, e);
@@ -83,8 +87,8 @@ static NTSTATUS send_rider(Packet *r, int d)
 /* A device sends what it has to another stack: it holds the packet, and a rider goes there. */
 NTSTATUS send_in_place(Packet *p, int by, int d)
 {
-    const bool skipped = p->skipped || p->prep == SKIPPED;
-    if (p->prep == SKIPPED || (p->asking && p->asking->cancel)) { /* can't be told so: the rules say no */
+    const bool skipped = p->next.skipped || p->next.how == SKIPPED;
+    if (p->next.how == SKIPPED || (p->asking && p->asking->cancel)) { /* can't be told so: the rules say no */
         settle(p, false);
         Entry *e = begin(CALL, p, by);
         e->other = d;
@@ -93,14 +97,14 @@ NTSTATUS send_in_place(Packet *p, int by, int d)
     }
     note("outside the model", "%s sends to %s, which isn't the device below it: recorded as held, with a packet of its "
          "own sent there in its place", who(by), who(d));
-    Setting *mine = p->want;
-    p->skipped = p->copied = p->touched = false;
+    Setting *mine = p->next.set;
+    p->next.skipped = p->next.copied = p->next.touched = false;
     settle(p, false);
     const int top = skipped ? p->current : p->current - 1;
     PIO_STACK_LOCATION raw = raw_at(p, top);
     Packet *r = new_rider(p, top, raw->MajorFunction, word_of(raw), &keeper);
-    p->want = NULL;
-    r->mine = skipped ? NULL : mine;
+    p->next.set = NULL;
+    r->stands_in.set = skipped ? NULL : mine;
     return send_rider(r, d);
 }
 
@@ -108,25 +112,25 @@ NTSTATUS send_in_place(Packet *p, int by, int d)
    own, on its stack. */
 bool will_wait(const Packet *p, const Frame *dispatch)
 {
-    const char here = 0, *event = p->want ? p->want->raw : NULL;
-    return !dispatch->marked && !p->skipped && event > &here && event < (const char *)dispatch && is_event(event);
+    const char here = 0, *event = p->next.set ? p->next.set->raw : NULL;
+    return !dispatch->marked && !p->next.skipped && event > &here && event < (const char *)dispatch && is_event(event);
 }
 
 /* Such a dispatch stays asked: a rider goes down, and the dispatch's routine runs when it is up. */
 NTSTATUS forward_in_place(Packet *p, int d)
 {
     const Location here = p->at[p->current];
-    Setting *mine = p->want;
+    Setting *mine = p->next.set;
     prepare_nothing(p);
     Packet *r = new_rider(p, p->current - 1, here.major, here.word, &keeper);
-    r->mine = mine;
+    r->stands_in.set = mine;
     return send_rider(r, d);
 }
 
 /* The originator has kept the rider, and frees it. What it rode for is found again. */
 static void let_go(Packet *r)
 {
-    Packet *p = r->rides;
+    Packet *p = r->stands_in.of;
     r->current = r->size + 1;
     r->owner = ORIGINATOR;
     r->asking = NULL;
@@ -136,7 +140,7 @@ static void let_go(Packet *r)
     answered(begin(FREE, r, ORIGINATOR), DONE, 0);
     r->live = false;
     n_live--;
-    p->rider = NULL;
+    p->stands_in.by = NULL;
     put_back(p);
     tell_waiters(&host_settled);
 }
@@ -145,8 +149,8 @@ static void let_go(Packet *r)
    packet goes on; where it doesn't, its next owner may have ended it already. */
 static bool run_own_routine(const Packet *r, int device)
 {
-    Packet *p = r->rides;
-    const Setting *s = r->mine;
+    Packet *p = r->stands_in.of;
+    const Setting *s = r->stands_in.set;
     if (!s || !((s->flags & (NT_SUCCESS(r->status) ? SL_INVOKE_ON_SUCCESS : SL_INVOKE_ON_ERROR)) ||
                 (p->cancel && (s->flags & SL_INVOKE_ON_CANCEL))))
         return true;
@@ -164,7 +168,7 @@ static bool run_own_routine(const Packet *r, int device)
 /* The rider is up: the originator keeps and frees it. Then the device's own routine runs, and completes or keeps. */
 void rider_came_up(Packet *r, Entry *e)
 {
-    Packet *p = r->rides;
+    Packet *p = r->stands_in.of;
     const int j = r->size;
     const int i = ask(e, r, ROUTINE, NULL, ORIGINATOR, j);
     Asked *a = &e->asked[i];
@@ -174,8 +178,8 @@ void rider_came_up(Packet *r, Entry *e)
     r->at[j] = (Location){ .device = NOBODY };
     seal(e, r->cancel);
     let_go(r);
-    if (r->up) { /* its dispatch waits in IoForwardIrpSynchronously */
-        set_event(r->up);
+    if (r->stands_in.up) { /* its dispatch waits in IoForwardIrpSynchronously */
+        set_event(r->stands_in.up);
         return;
     }
     const int by = p->asking ? p->asking->device : p->owner;
@@ -243,7 +247,7 @@ static bool forward_in_dispatch(Packet *p, int d, WDM_SITE at)
     KEVENT up;
     Frame *f = dispatching(p);
     take_hand_mark(p);
-    if (!f || f->marked || f->cancel || p->skipped || p->current == 1 || devices[f->device].lower != d)
+    if (!f || f->marked || f->cancel || p->next.skipped || p->current == 1 || devices[f->device].lower != d)
         return false;
     PIO_STACK_LOCATION next = raw_at(p, p->current - 1);
     *next = *raw_at(p, p->current);
@@ -255,10 +259,10 @@ static bool forward_in_dispatch(Packet *p, int d, WDM_SITE at)
     f->sent = true;
     Packet *r = new_rider(p, p->current - 1, p->at[p->current].major, p->at[p->current].word, &keeper);
     WdmKeInitializeEvent(&up, NotificationEvent, FALSE);
-    r->up = &up;
+    r->stands_in.up = &up;
     send_rider(r, d);
     let_driver_run();
-    if (r->up)
+    if (r->stands_in.up)
         WdmKeWaitForSingleObject(&up, NULL, at);
     driver_came_back();
     return true;

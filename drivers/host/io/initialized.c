@@ -7,7 +7,12 @@
  * is told then, and the memory stays. It has no page of its own, so nobody sees here who touches it after its end, or
  * while another driver has it; pool.c sees who touches a freed block.
  */
-#include "host.h"
+#include "io/own.h"
+#include "explore/explore.h"
+#include "ke/ke.h"
+#include "mm/mm.h"
+#include "record/record.h"
+#include "rules/rules.h"
 
 enum { CHAINS = 1024 };
 static Packet *chains[CHAINS];     /* all of them, by address, the newest first */
@@ -21,11 +26,11 @@ Packet *initialized_at(const void *at)
 {
     Packet *p = *chain_of(at);
     while (p && p->irp != at)
-        p = p->older;
+        p = p->initialized.older;
     return p;
 }
 
-static size_t bytes_of(const Packet *p) { return IoSizeOfIrp(p->size + p->scratch); }
+static size_t bytes_of(const Packet *p) { return IoSizeOfIrp(p->size + p->has_own_location); }
 
 /* The begin of the live one that the address lies in, or NULL. */
 const void *initialized_around(const void *address)
@@ -96,7 +101,7 @@ static void take_off(const Packet *p)
 static bool free_with_memory(Packet *p)
 {
     touch(p->irp, WRITES);
-    if (p->rider) {
+    if (p->stands_in.by) {
         fault("InFlight", p, "its memory goes while it is in flight");
         return false;
     }
@@ -133,9 +138,9 @@ void stack_goes(const Frame *f)
 {
     for (int i = n_standing - 1; i >= 0; i--) {
         Packet *p = i < n_standing ? standing[i] : NULL;
-        if (!p || p->lies_with != f)
+        if (!p || p->initialized.frame != f)
             continue;
-        p->lies_with = NULL;
+        p->initialized.frame = NULL;
         if (lives(p) && p->asking)
             settle(p, false);
         if (p->owner >= 0)
@@ -165,8 +170,8 @@ static Packet *first_use(PIRP irp, int locations, bool by_host)
     e->status = (ULONG)locations;
     Packet *p = new_packet(locations, irp);
     begin_use(p, STATUS_SUCCESS);
-    p->lies_with = frame_around(irp);
-    p->older = *chain_of(irp);
+    p->initialized.frame = frame_around(irp);
+    p->initialized.older = *chain_of(irp);
     *chain_of(irp) = p;
     standing[n_standing++] = p;
     e->p = p;
@@ -183,9 +188,9 @@ static void resize(Packet *p, int locations)
     Entry *e = begin(ALLOCATE, p, ORIGINATOR);
     e->status = (ULONG)locations;
     p->size = locations;
-    p->scratch = false;
-    free(p->above);
-    p->above = NULL;
+    p->has_own_location = false;
+    free(p->kept.above);
+    p->kept.above = NULL;
     unprotect(p);
     begin_use(p, STATUS_SUCCESS);
     e->use = p->use;
@@ -201,7 +206,7 @@ static void initialize(Packet *p, PIRP irp, size_t bytes, int count, WDM_SITE at
     const bool is_good = is_good_count(count);
     if (is_good && room)
         check_memory(irp, bytes, count, room);
-    if (p && p->live && locations == p->size + p->scratch)
+    if (p && p->live && locations == p->size + p->has_own_location)
         use_again(p, STATUS_SUCCESS);
     else if (p && p->live)
         resize(p, locations);
@@ -226,8 +231,8 @@ VOID WdmIoInitializeIrp(PIRP Irp, USHORT Bytes, CCHAR Size, WDM_SITE at)
         settle(p, false);
     if (is_in_page(Irp))
         note("IoInitializeIrp", "%s: for a packet of IoAllocateIrp call IoReuseIrp", place(at));
-    if (p && p->rides)
-        fault("InFlight", p->rides, "is initialized while it is in flight");
+    if (p && p->stands_in.of)
+        fault("InFlight", p->stands_in.of, "is initialized while it is in flight");
     else if (p && (p->owner >= 0 || (!p->live && is_in_page(Irp))))
         use_again(p, STATUS_SUCCESS); /* which is refused */
     else

@@ -4,7 +4,11 @@
  * WdmInterrupt runs the service routines of a vector on the thread that calls it, at the interrupt's level, under the
  * interrupt's lock; KeSynchronizeExecution waits for that lock.
  */
-#include "host.h"
+#include "explore/explore.h"
+#include "ke/ke.h"
+#include "mm/mm.h"
+#include "record/record.h"
+#include "rules/rules.h"
 
 struct _KINTERRUPT {
     PKSERVICE_ROUTINE routine;

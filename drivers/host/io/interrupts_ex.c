@@ -1,5 +1,7 @@
 /* interrupts_ex.c: IoConnectInterruptEx, over interrupts.c. Each device of a bus has a line, and none has messages. */
-#include "rules/given.h"
+#include "ke/ke.h"
+#include "record/record.h"
+#include "rules/rules.h"
 #include "wdm_hw.h"
 
 enum { FIRST_LINE = 0x50, LINE_IRQL = DISPATCH_LEVEL + 3, MAX_CONNECTED = 64 };

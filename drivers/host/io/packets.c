@@ -1,5 +1,10 @@
 /* packets.c: the shadow of a packet, whose call it is, and what allocates, frees and reuses one. */
-#include "explore/schedule.h"
+#include "io/own.h"
+#include "explore/explore.h"
+#include "ke/ke.h"
+#include "mm/mm.h"
+#include "record/record.h"
+#include "rules/rules.h"
 
 Packet *packets[MAX_PACKETS];
 int n_packets, n_live, n_early;
@@ -84,9 +89,9 @@ void await(Packet *p)
 
 void prepare_nothing(Packet *p)
 {
-    p->prep = NOTHING;
-    p->touched = p->copied = p->skipped = false;
-    p->want = NULL;
+    p->next.how = NOTHING;
+    p->next.touched = p->next.copied = p->next.skipped = false;
+    p->next.set = NULL;
 }
 
 void clear_location(Packet *p, int j)
@@ -113,7 +118,7 @@ void set_pending_bit(Packet *p, int j, bool real)
 void take_hand_mark(Packet *p)
 {
     Frame *f = p->asking;
-    if (!f || f->kind != DISPATCH || f->marked || f->bit_came || p->skipped || p->at[f->location].pending ||
+    if (!f || f->kind != DISPATCH || f->marked || f->bit_came || p->next.skipped || p->at[f->location].pending ||
         !(raw_at(p, f->location)->Control & SL_PENDING_RETURNED))
         return;
     f->marked = true;
@@ -127,8 +132,8 @@ void begin_use(Packet *p, NTSTATUS status)
     memset(p->irp, 0, sizeof *p->irp);
     p->irp->Type = 6;
     p->irp->Size = IoSizeOfIrp(p->size);
-    p->irp->StackCount = p->stack_count = (CHAR)p->size;
-    p->left = 0;
+    p->irp->StackCount = p->kept.stack_count = (CHAR)p->size;
+    p->kept.left = 0;
     InitializeListHead(&p->irp->ThreadListEntry);
     p->irp->IoStatus.Status = status;
     p->current = p->size + 1;
@@ -138,11 +143,11 @@ void begin_use(Packet *p, NTSTATUS status)
     p->status = (ULONG)status;
     p->information = 0;
     packets_lost -= p->lost;
-    p->cancel = p->returned = p->lost = p->writes_back = p->status_is_gone = p->event_is_gone = p->failed_at_once = false;
+    p->cancel = p->returned = p->lost = p->buffer.writes_back = p->built.status_gone = p->built.event_gone = p->built.fails_at_once = false;
     prepare_nothing(p);
     p->kept_by = NULL;
     p->file = NULL;
-    p->ran = p->own_cancel = NULL;
+    p->called = p->own_cancel = NULL;
     p->sites.sent = p->sites.completed = p->sites.cancel = p->sites.none_taken = (WDM_SITE){ 0 };
     p->use = next_use++;
 }
@@ -198,14 +203,14 @@ void free_now(Packet *p)
     packet_freed(p);
     p->live = false;
     n_live--;
-    if (p->bytes)
-        free_block(p->bytes, self.calls->at);
-    if (p->direct_bytes)
-        free_block(p->direct_bytes, self.calls->at);
-    free_host_memory(p->buffer);
-    p->buffer = NULL;
-    p->bytes = p->direct_bytes = NULL;
-    p->direct = NULL;
+    if (p->buffer.bytes)
+        free_block(p->buffer.bytes, self.calls->at);
+    if (p->buffer.direct_bytes)
+        free_block(p->buffer.direct_bytes, self.calls->at);
+    free_host_memory(p->buffer.given);
+    p->buffer.given = NULL;
+    p->buffer.bytes = p->buffer.direct_bytes = NULL;
+    p->buffer.direct = NULL;
 }
 
 /* The I/O manager's free of a packet that ended. It is put off, so that a late call finds it ended. A driver's own memory
@@ -241,8 +246,8 @@ VOID WdmIoFreeIrp(PIRP Irp, WDM_SITE at)
             fault("NotKept", p, "is freed after it has ended at %s: no routine kept it for %s",
                   place_with_callers(p->sites.completed, &p->completers), who_of(p, ORIGINATOR));
         answered(e, DONE, 0);
-        if (p->lends)
-            p->bytes = NULL; /* as in Windows it isn't freed with the packet */
+        if (p->buffer.is_lent)
+            p->buffer.bytes = NULL; /* as in Windows it isn't freed with the packet */
         free_now(p);
         p->sites.freed = at;
         shut(p);
@@ -285,7 +290,7 @@ VOID WdmIoMarkIrpPending(PIRP Irp, WDM_SITE at)
     await(p);
     Frame *f = p->asking;
     const int by = party_with_location(p);
-    if (f && on_top(p) == f && f->kind != CANCELLING && !(f->kind == DISPATCH && p->skipped)) {
+    if (f && on_top(p) == f && f->kind != CANCELLING && !(f->kind == DISPATCH && p->next.skipped)) {
         const int j = f->kind == ROUTINE ? f->location + 1 : f->location;
         f->marked = true;
         if (f->kind == DISPATCH)

@@ -1,5 +1,9 @@
 /* preparing.c: the next lower location is filled: by hand, by a copy, by a skip; and its routine is set. */
-#include "host.h"
+#include "io/own.h"
+#include "ke/ke.h"
+#include "mm/mm.h"
+#include "record/record.h"
+#include "rules/rules.h"
 
 /* In a dispatch that is asked, preparing is told with its plan; else it is an entry of the owner's. */
 static Frame *preparing(Packet *p)
@@ -15,7 +19,7 @@ static void copy_shadow(Packet *p)
 {
     p->at[p->current - 1] = (Location){ .device = NOBODY, .major = p->at[p->current].major,
                                         .word = p->at[p->current].word };
-    p->prep = FILLED;
+    p->next.how = FILLED;
 }
 
 /* No major: it stands in a next location that nobody has filled, so that one who only looks there fills nothing. */
@@ -24,17 +28,17 @@ enum { NO_MAJOR = 0xfe };
 /* Whether the owner wrote into its next location by hand. */
 bool is_filled_by_hand(Packet *p)
 {
-    return p->touched && p->current > 1 && raw_at(p, p->current - 1)->MajorFunction != NO_MAJOR;
+    return p->next.touched && p->current > 1 && raw_at(p, p->current - 1)->MajorFunction != NO_MAJOR;
 }
 
 /* What the owner wrote by hand into the next location becomes a SetNext, and what it set a SetRoutine. */
 void flush_next(Packet *p, int by)
 {
-    if (p->prep != SKIPPED && p->current > 1 && (is_filled_by_hand(p) || p->prep == FILLED)) {
+    if (p->next.how != SKIPPED && p->current > 1 && (is_filled_by_hand(p) || p->next.how == FILLED)) {
         PIO_STACK_LOCATION raw = raw_at(p, p->current - 1);
         Location *l = &p->at[p->current - 1];
         const uint64_t word = word_of(raw);
-        if (p->prep == NOTHING || raw->MajorFunction != l->major || word != l->word) {
+        if (p->next.how == NOTHING || raw->MajorFunction != l->major || word != l->word) {
             Entry *e = begin(SET_NEXT, p, by);
             e->major = raw->MajorFunction;
             e->word = word;
@@ -44,21 +48,21 @@ void flush_next(Packet *p, int by)
             else {
                 answered(e, DONE, 0);
                 *l = (Location){ .device = NOBODY, .major = raw->MajorFunction, .word = word };
-                p->prep = FILLED;
+                p->next.how = FILLED;
             }
         }
     }
-    if (p->want) {
+    if (p->next.set) {
         Entry *e = begin(SET_ROUTINE, p, by);
-        e->set = p->want;
+        e->set = p->next.set;
         const char *no = rules_refusal(e);
         if (no)
             refuse(e, no);
         else {
             answered(e, DONE, 0);
-            p->at[p->current - 1].set = p->want;
+            p->at[p->current - 1].set = p->next.set;
         }
-        p->want = NULL;
+        p->next.set = NULL;
     }
 }
 
@@ -69,10 +73,10 @@ PIO_STACK_LOCATION WdmIoGetNextIrpStackLocation(PIRP Irp, WDM_SITE at)
     enter_host(&c, "IoGetNextIrpStackLocation", at);
     Packet *p = find(Irp);
     const bool in_routine = p->asking && p->asking->kind == ROUTINE && on_top(p) == p->asking;
-    const int here = p->current + (in_routine || (p->skipped && p->asking) ? 1 : 0);
-    if (here > 1 && lives(p) && !p->touched && !p->copied && p->prep == NOTHING)
+    const int here = p->current + (in_routine || (p->next.skipped && p->asking) ? 1 : 0);
+    if (here > 1 && lives(p) && !p->next.touched && !p->next.copied && p->next.how == NOTHING)
         raw_at(p, here - 1)->MajorFunction = NO_MAJOR;
-    p->touched = true;
+    p->next.touched = true;
     if (lives(p) && here == 1) {
         settle(p, false);
         refuse(begin(SET_NEXT, p, party(p)), "TooShort");
@@ -87,7 +91,7 @@ VOID WdmIoCopyToNext(PIRP Irp, WDM_SITE at)
     enter_host(&c, "IoCopyCurrentIrpStackLocationToNext", at);
     Packet *p = find(Irp);
     Frame *f = preparing(p);
-    if (f && (p->skipped || p->current == 1)) {
+    if (f && (p->next.skipped || p->current == 1)) {
         settle(p, false);
         f = NULL;
     }
@@ -96,15 +100,15 @@ VOID WdmIoCopyToNext(PIRP Irp, WDM_SITE at)
     if (no)
         refuse(e, no);
     else {
-        if (p->want)
+        if (p->next.set)
             fault("RoutineLost", p, "the completion routine that was set is copied over");
         PIO_STACK_LOCATION next = raw_at(p, p->current - 1);
         *next = *raw_at(p, p->current);
         next->Control = 0;
         next->CompletionRoutine = NULL;
         next->Context = NULL;
-        p->want = NULL;
-        p->copied = true;
+        p->next.set = NULL;
+        p->next.copied = true;
         if (e) {
             answered(e, DONE, 0);
             copy_shadow(p);
@@ -116,7 +120,7 @@ VOID WdmIoCopyToNext(PIRP Irp, WDM_SITE at)
 static void skip(Packet *p)
 {
     Frame *f = preparing(p);
-    if (f && (p->skipped || f->cancel)) {
+    if (f && (p->next.skipped || f->cancel)) {
         settle(p, false);
         f = NULL;
     }
@@ -125,7 +129,7 @@ static void skip(Packet *p)
     if (no)
         refuse(e, no);
     else {
-        if (p->want)
+        if (p->next.set)
             fault("RoutineLost", p, "a completion routine is set, and then the location is skipped");
         if (p->current > 1)
             clear_location(p, p->current - 1);
@@ -133,11 +137,11 @@ static void skip(Packet *p)
         p->irp->CurrentLocation++;
         p->irp->Tail.Overlay.CurrentStackLocation++;
         if (f)
-            p->skipped = true;
+            p->next.skipped = true;
         else {
             answered(e, DONE, 0);
             p->current++;
-            p->prep = SKIPPED;
+            p->next.how = SKIPPED;
         }
     }
 }
@@ -153,7 +157,7 @@ VOID WdmIoSkip(PIRP Irp, WDM_SITE at)
 /* Whether the packet's own words say what IoSkipCurrentIrpStackLocation makes of them, and it wasn't called. */
 bool is_skipped_by_hand(const Packet *p)
 {
-    return lives(p) && !p->skipped && p->prep != SKIPPED && p->irp->CurrentLocation == p->current + 1 &&
+    return lives(p) && !p->next.skipped && p->next.how != SKIPPED && p->irp->CurrentLocation == p->current + 1 &&
         p->irp->Tail.Overlay.CurrentStackLocation == raw_at((Packet *)p, p->current + 1);
 }
 
@@ -185,7 +189,7 @@ VOID WdmIoSetCompletionRoutine(PIRP Irp, PIO_COMPLETION_ROUTINE Routine, PVOID C
     Frame *f = preparing(p);
     Entry *e = begin(SET_ROUTINE, p, party(p));
     e->set = new_setting(Routine, Context, Flags);
-    if (f && p->skipped) {
+    if (f && p->next.skipped) {
         settle(p, false);
         f = NULL;
     }
@@ -199,7 +203,7 @@ VOID WdmIoSetCompletionRoutine(PIRP Irp, PIO_COMPLETION_ROUTINE Routine, PVOID C
     if (no)
         refuse(e, no);
     else {
-        p->want = Routine ? e->set : NULL;
+        p->next.set = Routine ? e->set : NULL;
         PIO_STACK_LOCATION next = raw_at(p, p->current - 1);
         next->CompletionRoutine = Routine;
         next->Context = Context;

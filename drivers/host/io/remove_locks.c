@@ -3,7 +3,10 @@
  * `irpx check` doesn't judge: the host does. One that lies elsewhere, in pool or in a global, has a number behind all
  * devices': the host checks it in the same way, and records nothing of it.
  */
-#include "host.h"
+#include "explore/explore.h"
+#include "ke/ke.h"
+#include "record/record.h"
+#include "rules/rules.h"
 
 enum { MAX_LOCKS = MAX_DEVICES + 64 };
 typedef struct { PVOID tag; int seat, device; UCHAR major; bool in_dispatch; WDM_SITE at; const Packet *p; uint64_t use, frame; } Held;
@@ -233,7 +236,7 @@ NTSTATUS WdmIoAcquireRemoveLock(PIO_REMOVE_LOCK RemoveLock, PVOID Tag, WDM_SITE 
 static const Packet *packet_of_tag(PVOID tag)
 {
     for (int i = n_packets - 1; i >= 0; i--)
-        if (packets[i]->live && packets[i]->irp == tag && !packets[i]->rides)
+        if (packets[i]->live && packets[i]->irp == tag && !packets[i]->stands_in.of)
             return packets[i];
     return NULL;
 }

@@ -1,5 +1,11 @@
 /* sending.c: IoCallDriver, and what a dispatch that was entered says when it returns. */
-#include "host.h"
+#include "io/own.h"
+#include "explore/explore.h"
+#include "ke/ke.h"
+#include "mm/mm.h"
+#include "record/record.h"
+#include "rules/rules.h"
+#include "test/test.h"
 
 /* What a dispatch returned is held against what it did. */
 static void judge_return(Packet *p, const Frame *f, NTSTATUS answer)
@@ -113,7 +119,7 @@ static void tell_hand_copied(Packet *p, const Setting *set)
 static bool is_same_below(Packet *p)
 {
     const Location *here = &p->at[p->current];
-    return (p->copied || is_filled_by_hand(p)) && p->current > 1 && raw_at(p, p->current - 1)->MajorFunction == here->major &&
+    return (p->next.copied || is_filled_by_hand(p)) && p->current > 1 && raw_at(p, p->current - 1)->MajorFunction == here->major &&
         word_of(raw_at(p, p->current - 1)) == here->word;
 }
 
@@ -133,7 +139,7 @@ static NTSTATUS pass_down(Packet *p, Frame *f, int d)
     const Location here = p->at[p->current];
     f->settled = f->passed = true;
     decided_here(a);
-    if (p->skipped) {
+    if (p->next.skipped) {
         if (word_of(raw_at(p, p->current)) != here.word)
             note("outside the model", "%s: changes its own parameters and skips: the record has them as first sent",
                  what_runs(f));
@@ -141,8 +147,8 @@ static NTSTATUS pass_down(Packet *p, Frame *f, int d)
         p->current++;
     } else {
         a->plan = f->marked ? FORWARD_PEND : FORWARD;
-        a->set = p->want;
-        p->at[p->current - 1] = (Location){ .device = NOBODY, .major = here.major, .word = here.word, .set = p->want,
+        a->set = p->next.set;
+        p->at[p->current - 1] = (Location){ .device = NOBODY, .major = here.major, .word = here.word, .set = p->next.set,
                                             .by = f->e, .by_i = f->i };
     }
     p->asking = NULL;
@@ -160,9 +166,9 @@ static NTSTATUS send(Packet *p, int by, int d)
 {
     Frame *f = dispatching(p);
     if (lives(p)) {
-        if (f && f->marked && p->skipped)
+        if (f && f->marked && p->next.skipped)
             note("a warning of the kit", "%s: marks its location and skips it", what_runs(f));
-        const bool prepared = p->skipped || (p->current > 1 && (p->copied || is_filled_by_hand(p) || p->prep != NOTHING));
+        const bool prepared = p->next.skipped || (p->current > 1 && (p->next.copied || is_filled_by_hand(p) || p->next.how != NOTHING));
         if (prepared && by >= 0 && devices[by].lower != d && devices[d].live)
             return send_in_place(p, by, d);
         settle(p, false);
@@ -176,7 +182,7 @@ static NTSTATUS send(Packet *p, int by, int d)
         refuse(e, no);
         return STATUS_INVALID_DEVICE_REQUEST;
     }
-    if (p->prep == FILLED)
+    if (p->next.how == FILLED)
         tell_hand_copied(p, p->at[p->current - 1].set);
     const NTSTATUS answer = enter_device(p, d, e);
     returned_from(e, answer);
@@ -193,8 +199,8 @@ NTSTATUS WdmIoCallDriver(PDEVICE_OBJECT Target, PIRP Irp, WDM_SITE at)
     take_hand_skip(p);
     take_hand_mark(p);
     const int by = party(p), d = device_number(Target);
-    if (lives(p) && (p->skipped || p->current > 1))
-        check_dispatch_level(p, raw_at(p, p->skipped ? p->current : p->current - 1)->MajorFunction, d);
+    if (lives(p) && (p->next.skipped || p->current > 1))
+        check_dispatch_level(p, raw_at(p, p->next.skipped ? p->current : p->current - 1)->MajorFunction, d);
     Frame *f = dispatching(p);
     NTSTATUS answer;
     if (lives(p) && p->owner == ORIGINATOR) {
@@ -206,15 +212,15 @@ NTSTATUS WdmIoCallDriver(PDEVICE_OBJECT Target, PIRP Irp, WDM_SITE at)
     const uint64_t use = p->use;
     if (lives(p))
         check_sending(p, by);
-    if (lives(p) && (p->skipped || p->current > 1))
-        check_started_below(p, raw_at(p, p->skipped ? p->current : p->current - 1), d);
+    if (lives(p) && (p->next.skipped || p->current > 1))
+        check_started_below(p, raw_at(p, p->next.skipped ? p->current : p->current - 1), d);
     if (lives(p))
-        check_next_power(p, by, !p->skipped && p->want);
+        check_next_power(p, by, !p->next.skipped && p->next.set);
     if (lives(p) && p->owner != ENDED && (f || p->owner == by))
         p->sites.sent = at;
-    if (f && devices[by].lower == d && !f->cancel && (p->skipped ? !f->marked : is_same_below(p))) {
-        if (!p->skipped)
-            tell_hand_copied(p, p->want);
+    if (f && devices[by].lower == d && !f->cancel && (p->next.skipped ? !f->marked : is_same_below(p))) {
+        if (!p->next.skipped)
+            tell_hand_copied(p, p->next.set);
         answer = will_wait(p, f) ? forward_in_place(p, d) : pass_down(p, f, d);
     } else
         answer = send(p, by, d);

@@ -1,5 +1,8 @@
 /* settling.c: what is asked about a packet is decided: whoever is asked has kept it. */
-#include "host.h"
+#include "io/own.h"
+#include "ke/ke.h"
+#include "record/record.h"
+#include "rules/rules.h"
 
 /* The dispatch in this location counts as one that pended, which its own code hasn't done. */
 static void pend_for(Packet *p, int j, const char *why)
@@ -45,7 +48,7 @@ void routine_kept(Packet *p, Frame *f)
 {
     const Location below = p->at[f->location];
     take_kept_answer(p, f);
-    if (f->marked && f->device == ORIGINATOR && !p->scratch)
+    if (f->marked && f->device == ORIGINATOR && !p->has_own_location)
         fault_of("Mark", p, f, "marks a packet in which it has no location");
     if (f->location < p->size)
         pend_setter(p, f->location + 1, below, "it forwards unmarked, and its routine keeps");
@@ -75,16 +78,16 @@ static void hold(Packet *p, Frame *f)
                  place(p->sites.cancel));
     p->owner = p->last = f->device;
     seal(f->e, p->cancel);
-    if (p->copied) {
+    if (p->next.copied) {
         answered(begin(COPY, p, f->device), DONE, 0);
         p->at[p->current - 1] = (Location){ .device = NOBODY, .major = p->at[p->current].major,
                                             .word = p->at[p->current].word };
-        p->prep = FILLED;
+        p->next.how = FILLED;
     }
-    if (p->skipped) {
+    if (p->next.skipped) {
         answered(begin(SKIP, p, f->device), DONE, 0);
         p->current++;
-        p->prep = SKIPPED;
+        p->next.how = SKIPPED;
     }
 }
 

@@ -1,5 +1,7 @@
 /* share_access.c: how a file may be opened more than once, and bits beyond a bitmap. */
-#include "host.h"
+#include "explore/explore.h"
+#include "ke/ke.h"
+#include "record/record.h"
 #include "wdm_bits.h"
 #include "wdm_share.h"
 

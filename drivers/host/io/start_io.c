@@ -4,7 +4,11 @@
  * The driver's StartIo runs at DISPATCH_LEVEL, one packet at a time, on the thread that starts it. In the record the
  * packet is held by its device meanwhile: its dispatch has marked it.
  */
-#include "host.h"
+#include "io/own.h"
+#include "explore/explore.h"
+#include "ke/ke.h"
+#include "mm/mm.h"
+#include "record/record.h"
 
 static const WDM_SITE nowhere;
 

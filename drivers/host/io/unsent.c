@@ -3,7 +3,9 @@
  * goes to the next location by hand, completes the packet there by itself. The rules know nothing of that, and nothing of
  * it is recorded but a cancel.
  */
-#include "host.h"
+#include "io/own.h"
+#include "ke/ke.h"
+#include "record/record.h"
 
 static bool is_with_originator(const Packet *p)
 {

@@ -2,7 +2,12 @@
  * callbacks.c: callback objects, and power settings, which are told alike: each registration has a routine of its driver, and
  * is waited for where it is taken back. All of it is under G, but for the routines.
  */
-#include "ke/callbacks.h"
+#include "ke/ke.h"
+#include "explore/explore.h"
+#include "mm/mm.h"
+#include "record/record.h"
+#include "rtl/rtl.h"
+#include "rules/rules.h"
 
 struct _CALLBACK_OBJECT {
     struct _CALLBACK_OBJECT *next;

@@ -5,7 +5,10 @@
  * waiter knows. A wait without a limit in which no thread can go on is a hang. A driver's own thread may wait for ever
  * outside of packets.
  */
-#include "host.h"
+#include "ke/ke.h"
+#include "explore/explore.h"
+#include "record/record.h"
+#include "rules/rules.h"
 
 /* As Windows numbers them. A timer is an event of its own numbers, and so is a thread's end. */
 enum { NOTIFICATION_EVENT, SYNCHRONIZATION_EVENT, MUTEX, SEMAPHORE = 5, EVENT_SIZE = sizeof(KEVENT) / sizeof(LONG) };

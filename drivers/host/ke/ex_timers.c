@@ -2,7 +2,11 @@
  * ex_timers.c: timers that call back (ExAllocateTimer), over a timer and a deferred call of the host's. One that is deleted
  * stays as long as the run, so that who uses it then is told.
  */
-#include "rules/given.h"
+#include "ke/own.h"
+#include "explore/explore.h"
+#include "mm/mm.h"
+#include "record/record.h"
+#include "rules/rules.h"
 #include "wdm_timers.h"
 
 struct _EX_TIMER {

@@ -1,5 +1,9 @@
 /* kernel.c: spin locks, IRQL, interlocked lists, time. */
-#include "explore/schedule.h"
+#include "ke/own.h"
+#include "explore/explore.h"
+#include "mm/mm.h"
+#include "record/record.h"
+#include "rules/rules.h"
 #include <unistd.h>
 
 /* A spin lock is 0, or one more than the seat of the thread that holds it. */

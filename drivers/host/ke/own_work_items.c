@@ -3,6 +3,9 @@
  * (IoQueueWorkItemEx), and work that keeps no device (ExQueueWorkItem). work_items.c runs them. All of it is under G.
  */
 #include "ke/work_items.h"
+#include "explore/explore.h"
+#include "record/record.h"
+#include "rules/rules.h"
 
 /* Without the host's lock. */
 void call_routine(const struct _IO_WORKITEM *item, PIO_WORKITEM itself)

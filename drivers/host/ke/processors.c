@@ -1,6 +1,6 @@
 /* processors.c: what drivers ask of processors, of which there is one: masks of a thread, deferred calls on each, a larger
    stack; and the system's version. */
-#include "host.h"
+#include "ke/ke.h"
 
 /* A mask without an active processor changes nothing. */
 KAFFINITY KeSetSystemAffinityThreadEx(KAFFINITY Affinity)
@@ -13,6 +13,17 @@ KAFFINITY KeSetSystemAffinityThreadEx(KAFFINITY Affinity)
 }
 
 VOID KeRevertToUserAffinityThreadEx(KAFFINITY Affinity) { self.affinity = Affinity & KeQueryActiveProcessors(); }
+
+enum { DPC_OBJECT = 0x13 }; /* as Windows numbers it */
+
+VOID WdmKeInitializeDpc(PKDPC Dpc, PKDEFERRED_ROUTINE Routine, PVOID Context, WDM_SITE at)
+{
+    Call c;
+    enter_host(&c, "KeInitializeDpc", at);
+    *Dpc = (KDPC){ .Type = DPC_OBJECT, .Importance = MediumImportance, .DeferredRoutine = Routine, .DeferredContext = Context,
+                   .HostDriver = calling_driver() };
+    leave_host();
+}
 
 /* The routine runs at once, at DISPATCH_LEVEL, for the one processor. */
 VOID WdmKeGenericCallDpc(PKDEFERRED_ROUTINE Routine, PVOID Context, WDM_SITE at)

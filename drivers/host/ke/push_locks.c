@@ -1,6 +1,9 @@
 /* push_locks.c: push locks, which readers share. A lock is twice the number of its readers, or 1 while one has it alone.
    Waits and all changes are under G. */
-#include "host.h"
+#include "ke/own.h"
+#include "explore/explore.h"
+#include "record/record.h"
+#include "rules/rules.h"
 #include "wdm_locks.h"
 
 static bool is_free(const void *lock) { return !*(const EX_PUSH_LOCK *)lock; }

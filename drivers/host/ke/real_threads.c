@@ -1,5 +1,7 @@
 /* real_threads.c: waits of real threads, and the clock. Under a schedule schedule.c takes over. */
-#include "explore/schedule.h"
+#include "ke/own.h"
+#include "explore/explore.h"
+#include "test/test.h"
 #include <dirent.h>
 #include <errno.h>
 #include <sched.h>
@@ -10,7 +12,6 @@ enum { LOOK_AGAIN = 100 }; /* milliseconds after which a waiter looks whether an
 enum { MANY_TIMES = 10 };  /* so many times its patience a thread waits while others go on */
 static const LONGLONG UNIX_EPOCH = 116444736000000000; /* in 100 ns from 1601 */
 static _Atomic int sleepers; /* waits with a limit that go on, and threads that a seed lets sleep */
-static unsigned shake_seed;
 
 LONGLONG now_in_100ns(void)
 {
@@ -22,17 +23,6 @@ LONGLONG now_in_100ns(void)
 }
 
 void tell_waiters(Condition *c) { pthread_cond_broadcast(&c->told); }
-
-static pthread_once_t settings_once = PTHREAD_ONCE_INIT;
-static int patience = 3;
-
-static void read_settings(void)
-{
-    const char *seed = getenv("WDM_SHAKE"), *seconds = getenv("WDM_PATIENCE");
-    shake_seed = seed ? (unsigned)strtoul(seed, NULL, 10) : 0;
-    if (seconds && atoi(seconds) > 0)
-        patience = atoi(seconds);
-}
 
 /* Since when nothing goes on in the host, as this waiter saw it, and since when it waits; when it looked last, and what
    processors had worked for the program since nothing goes on. */
@@ -79,7 +69,7 @@ static LONGLONG quiet_time(const Wait *w)
     const LONGLONG second = 10000000;
     if (w->seconds)
         return w->seconds * second;
-    return patience * second / (packets_lost > 0 ? 10 : 1);
+    return options.patience * second / (packets_lost > 0 ? 10 : 1);
 }
 
 /* Where this thread got no processor for a while it looks too late. That time doesn't count: the others got none either. */
@@ -110,7 +100,7 @@ static Woken patience_is_over(const Wait *w, bool has_limit, Quiet *q)
     }
     if (time - q->since > quiet_time(w))
         return another_can_run() && processor_time() - q->worked < quiet_time(w) ? READY : STUCK;
-    return w->patience <= HANGS && time - q->began > MANY_TIMES * patience * second ? OVERDUE : READY;
+    return w->patience <= HANGS && time - q->began > MANY_TIMES * options.patience * second ? OVERDUE : READY;
 }
 
 /* Waits for a moment, or until it is told. */
@@ -131,7 +121,6 @@ static Woken wait_really(const Wait *w)
     Quiet quiet = { 0 };
     Woken woken = READY;
     bool counts = false;
-    pthread_once(&settings_once, read_settings);
     self.wait = w;
     while (!w->ready(w->context)) {
         waits_now();
@@ -169,11 +158,10 @@ Woken wait_for(const Wait *w)
 /* With a seed a real thread yields or sleeps for a moment now and then, so that threads mix. */
 static void shake(void)
 {
-    pthread_once(&settings_once, read_settings);
-    if (!shake_seed || self.seat < 0)
+    if (!options.shake || self.seat < 0)
         return;
     if (!self.chance)
-        self.chance = shake_seed * 2654435761u + (unsigned)self.seat + 1;
+        self.chance = (unsigned)options.shake * 2654435761u + (unsigned)self.seat + 1;
     const unsigned r = (unsigned)rand_r(&self.chance) % 16;
     if (r < 4)
         sched_yield();

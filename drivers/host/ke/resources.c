@@ -1,5 +1,7 @@
 /* resources.c: ERESOURCE, rundown protection, critical regions, singly linked lists, processors. All of it is under G. */
-#include "host.h"
+#include "ke/own.h"
+#include "explore/explore.h"
+#include "record/record.h"
 
 static const WDM_SITE nowhere;
 

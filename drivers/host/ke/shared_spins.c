@@ -1,6 +1,10 @@
 /* shared_spins.c: spin locks that readers share (EX_SPIN_LOCK). A lock is the number of its readers, or the least LONG while
    one has it alone. */
-#include "host.h"
+#include "ke/own.h"
+#include "explore/explore.h"
+#include "mm/mm.h"
+#include "record/record.h"
+#include "rules/rules.h"
 #include "wdm_locks.h"
 
 static const LONG ALONE = INT32_MIN;

@@ -1,5 +1,12 @@
 /* threads.c: the host's lock, seats, whose code a thread runs, and threads that drivers make. */
-#include "explore/schedule.h"
+#include "ke/ke.h"
+#include "explore/explore.h"
+#include "io/io.h"
+#include "mm/mm.h"
+#include "ob/ob.h"
+#include "record/record.h"
+#include "rules/rules.h"
+#include "test/test.h"
 
 pthread_mutex_t host_lock = PTHREAD_MUTEX_INITIALIZER;
 Condition host_settled = { &host_lock, PTHREAD_COND_INITIALIZER };

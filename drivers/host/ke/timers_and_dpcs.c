@@ -4,7 +4,11 @@
  * One thread of the host is the clock, and runs deferred calls. Under a schedule there is another one for what is queued
  * while a deferred call runs: another processor, on which it may run at once.
  */
-#include "explore/schedule.h"
+#include "ke/own.h"
+#include "explore/explore.h"
+#include "pnp/pnp.h"
+#include "record/record.h"
+#include "rules/rules.h"
 
 enum { MAX_DPCS = 256, MAX_PROCESSORS = 2 };
 static Condition clock_changed = { &host_lock, PTHREAD_COND_INITIALIZER };
@@ -321,17 +325,6 @@ BOOLEAN KeCancelTimer(PKTIMER Timer)
 }
 
 BOOLEAN KeReadStateTimer(PKTIMER Timer) { return KeReadStateEvent((PKEVENT)Timer) != 0; }
-
-enum { DPC_OBJECT = 0x13 }; /* as Windows numbers it */
-
-VOID WdmKeInitializeDpc(PKDPC Dpc, PKDEFERRED_ROUTINE Routine, PVOID Context, WDM_SITE at)
-{
-    Call c;
-    enter_host(&c, "KeInitializeDpc", at);
-    *Dpc = (KDPC){ .Type = DPC_OBJECT, .Importance = MediumImportance, .DeferredRoutine = Routine, .DeferredContext = Context,
-                   .HostDriver = calling_driver() };
-    leave_host();
-}
 
 BOOLEAN KeRemoveQueueDpc(PKDPC Dpc)
 {

@@ -1,5 +1,10 @@
 /* work_items.c: work items, on up to eight threads of the host. All of it is under G. */
 #include "ke/work_items.h"
+#include "explore/explore.h"
+#include "io/io.h"
+#include "mm/mm.h"
+#include "record/record.h"
+#include "rules/rules.h"
 
 enum { MAX_WORKERS = 8 };
 static Condition work_came = { &host_lock, PTHREAD_COND_INITIALIZER };

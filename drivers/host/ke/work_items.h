@@ -2,7 +2,7 @@
 #ifndef DRIVERS_WORK_ITEMS_H
 #define DRIVERS_WORK_ITEMS_H
 
-#include "host.h"
+#include "ke/own.h"
 
 struct _IO_WORKITEM {
     PDEVICE_OBJECT device; /* NULL: of ExQueueWorkItem, or of a driver object */

@@ -1,6 +1,6 @@
 /* allocated.c: the places at which drivers allocated, and which allocation of the run was the first one of each: for the
    plan of runs, which refuses these first. */
-#include "host.h"
+#include "record/record.h"
 
 enum { MOST_PLACES = 1024 };
 typedef struct { int number; const char *what; WDM_SITE at; } Allocated;

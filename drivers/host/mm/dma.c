@@ -3,6 +3,10 @@
  * DMA (bug check 0xE6).
  */
 #include "mm/dma.h"
+#include "explore/explore.h"
+#include "ke/ke.h"
+#include "record/record.h"
+#include "rules/rules.h"
 #include <stdarg.h>
 
 enum { FENCE = 16, FENCED = 0xFD };

@@ -2,7 +2,7 @@
 #ifndef DRIVERS_DMA_H
 #define DRIVERS_DMA_H
 
-#include "rules/given.h"
+#include "mm/own.h"
 #include "wdm_dma.h"
 
 /* A list that is wanted, or out; or a channel that is wanted, or has it, or registers that are kept. */
@@ -60,10 +60,8 @@ Mapping *mapping_of(const void *of, const Mapping *before);
 
 /* dma_lists.c, dma_channels.c: these three take and give G themselves. Runs what is wanted and fits now. */
 void serve_wanted(Adapter *a);
-void run_list(Wanted *w);
 void run_channel(Wanted *w);
 bool fits_at_once(Wanted *w); /* then it is out */
-void take_action(Wanted *w, IO_ALLOCATION_ACTION action);
 GET_SCATTER_GATHER_LIST get_list;
 PUT_SCATTER_GATHER_LIST put_list;
 BUILD_SCATTER_GATHER_LIST build_list;

@@ -3,6 +3,10 @@
  * others wait for it. What it returns says what is kept.
  */
 #include "mm/dma.h"
+#include "explore/explore.h"
+#include "ke/ke.h"
+#include "record/record.h"
+#include "rules/rules.h"
 
 NTSTATUS want_channel(Adapter *a, Wanted *w, PVOID *base)
 {
@@ -44,7 +48,7 @@ static void tell_not_flushed(const Wanted *w)
 }
 
 /* The routine's answer: what of the channel and the registers goes now. */
-void take_action(Wanted *w, IO_ALLOCATION_ACTION action)
+static void take_action(Wanted *w, IO_ALLOCATION_ACTION action)
 {
     if (action == KeepObject)
         return;

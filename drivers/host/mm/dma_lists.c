@@ -3,6 +3,10 @@
  * returns, or once another list or channel gives map registers back.
  */
 #include "mm/dma.h"
+#include "explore/explore.h"
+#include "ke/ke.h"
+#include "record/record.h"
+#include "rules/rules.h"
 
 /* How many of these bytes the MDLs have, from this address on. Where it is fewer, or no page is locked, that is told. */
 ULONG check_buffer(PMDL mdl, const char *va, ULONG length)
@@ -99,7 +103,7 @@ static void hand_out_list(const Wanted *w)
     end_routine(&r);
 }
 
-void run_list(Wanted *w)
+static void run_list(Wanted *w)
 {
     Call c;
     enter_quietly(&c, "GetScatterGatherList", w->at);

@@ -4,6 +4,9 @@
  * A page that nobody has lies behind each mapping. Those that are over stay, so that a device that uses them is told of.
  */
 #include "mm/dma.h"
+#include "explore/explore.h"
+#include "ke/ke.h"
+#include "record/record.h"
 #include "wdm_test.h"
 
 static Mapping *mappings;

@@ -3,6 +3,8 @@
  * list or channel that waits is cancelled. With DMA_SYNCHRONOUS_CALLBACK it is there when the call returns, or never.
  */
 #include "mm/dma.h"
+#include "ke/ke.h"
+#include "record/record.h"
 
 /* What stands at the begin of a context that is initialized. */
 static uint64_t mark_of(const void *transfer) { return (uint64_t)(uintptr_t)transfer ^ 0xD3A5C0117E47ull; }

@@ -1,6 +1,9 @@
 /* lookaside.c: lookaside lists of Windows Vista and later. Each block comes from pool and goes back there, at the driver's own
    lines; a list has to be deleted before its memory goes, or its driver. */
-#include "rules/given.h"
+#include "explore/explore.h"
+#include "ke/ke.h"
+#include "record/record.h"
+#include "rules/rules.h"
 
 NTSTATUS WdmExInitializeList(PLOOKASIDE_LIST_EX List, PALLOCATE_FUNCTION_EX Allocate, PFREE_FUNCTION_EX Free, POOL_TYPE Type,
                              ULONG Flags, SIZE_T Bytes, ULONG Tag, WDM_SITE at)

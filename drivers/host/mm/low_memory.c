@@ -2,7 +2,9 @@
  * low_memory.c: allocations and mappings of drivers that fail. WDM_REFUSE=N refuses the N-th of a run; N+ that one and all behind
  * it; sS one in sixteen, by the seed S. The summary says how many allocations a run made.
  */
-#include "host.h"
+#include "mm/own.h"
+#include "ke/ke.h"
+#include "record/record.h"
 
 int n_allocations;
 static int n_refused;
@@ -11,28 +13,15 @@ static const char *what_refused;
 
 static bool is_chosen(int n)
 {
-    static const char *wish;
     static unsigned seed;
-    if (!wish) {
-        wish = getenv("WDM_REFUSE");
-        wish = wish ? wish : "";
-        seed = *wish == 's' ? (unsigned)strtoul(wish + 1, NULL, 10) * 2654435761u + 1 : 0;
-    }
+    const char *wish = options.refuse ? options.refuse : "";
+    if (*wish == 's' && !seed)
+        seed = (unsigned)strtoul(wish + 1, NULL, 10) * 2654435761u + 1;
     if (*wish == 's')
         return rand_r(&seed) % 16 == 0;
     const int wanted = atoi(wish);
     return wanted > 0 && (n == wanted || (n > wanted && wish[strlen(wish) - 1] == '+'));
 }
-
-/* Where a file of the host stands in its folder, or NULL where it is another one. */
-const char *path_in_host(const char *file)
-{
-    const size_t n = strlen(__FILE__) - strlen("mm/low_memory.c");
-    return file && !strncmp(file, __FILE__, n) ? file + n : NULL;
-}
-
-/* Whether a call is made by the host's own code, or its own drivers: they are never refused, for one. */
-bool is_hosts_file(const char *file) { return !file || path_in_host(file); }
 
 /* Under G: whether this allocation of a driver fails. Packets, MDLs and handles that a test asks for by itself don't count. */
 bool memory_is_refused(const char *what, WDM_SITE at)

@@ -2,7 +2,12 @@
  * mdl.c: memory descriptor lists. Memory is mapped at its own address. What is told: an MDL used before its pages are
  * locked or it was built, locked or unlocked twice, freed while its pages are locked, and locked at the end.
  */
-#include "host.h"
+#include "mm/own.h"
+#include "explore/explore.h"
+#include "io/io.h"
+#include "ke/ke.h"
+#include "record/record.h"
+#include "rules/rules.h"
 
 enum { MAX_LOCKED = 256 };
 static struct { PMDL mdl; WDM_SITE at; } locked[MAX_LOCKED];
@@ -46,15 +51,15 @@ static void unlock_pages(PMDL mdl)
    unlocks and frees them before the packet. */
 void lend_buffers(Packet *p, PVOID buffer, ULONG length, bool is_read)
 {
-    p->lends = true;
-    if (p->irp->MdlAddress && buffer && (p->lent = host_memory(MmSizeOfMdl(buffer, length)))) {
-        MmInitializeMdl(p->lent, buffer, length);
-        lock_pages(p->lent, is_read, self.calls->at);
-        p->irp->MdlAddress = p->lent;
-        p->writes_back = false;
-    } else if (p->irp->AssociatedIrp.SystemBuffer && p->bytes) {
-        p->bytes->is_buffer = false;
-        p->bytes->lent_by = p;
+    p->buffer.is_lent = true;
+    if (p->irp->MdlAddress && buffer && (p->buffer.lent = host_memory(MmSizeOfMdl(buffer, length)))) {
+        MmInitializeMdl(p->buffer.lent, buffer, length);
+        lock_pages(p->buffer.lent, is_read, self.calls->at);
+        p->irp->MdlAddress = p->buffer.lent;
+        p->buffer.writes_back = false;
+    } else if (p->irp->AssociatedIrp.SystemBuffer && p->buffer.bytes) {
+        p->buffer.bytes->is_buffer = false;
+        p->buffer.bytes->lent_by = p;
         p->irp->Flags |= IRP_BUFFERED_IO | IRP_DEALLOCATE_BUFFER | (is_read ? IRP_INPUT_OPERATION : 0);
     }
 }
@@ -62,12 +67,12 @@ void lend_buffers(Packet *p, PVOID buffer, ULONG length, bool is_read)
 /* Nobody kept the packet: the I/O manager unlocks and frees its MDL. */
 void end_lent_mdl(Packet *p)
 {
-    if (p->lent && p->irp->MdlAddress == p->lent && p->lent->MdlFlags & MDL_PAGES_LOCKED) {
-        unlock_pages(p->lent);
-        free_host_memory(p->lent);
+    if (p->buffer.lent && p->irp->MdlAddress == p->buffer.lent && p->buffer.lent->MdlFlags & MDL_PAGES_LOCKED) {
+        unlock_pages(p->buffer.lent);
+        free_host_memory(p->buffer.lent);
         p->irp->MdlAddress = NULL;
     }
-    p->lent = NULL;
+    p->buffer.lent = NULL;
 }
 
 PMDL WdmIoAllocateMdl(PVOID Address, ULONG Length, BOOLEAN Secondary, PIRP Irp, WDM_SITE at)
@@ -92,7 +97,7 @@ PMDL WdmIoAllocateMdl(PVOID Address, ULONG Length, BOOLEAN Secondary, PIRP Irp, 
 static Packet *built_with(PMDL mdl)
 {
     for (int i = 0; i < n_packets; i++)
-        if (packets[i]->buffer && (mdl == packets[i]->buffer || mdl == packets[i]->direct))
+        if (packets[i]->buffer.given && (mdl == packets[i]->buffer.given || mdl == packets[i]->buffer.direct))
             return packets[i];
     return NULL;
 }
@@ -209,7 +214,7 @@ VOID WdmIoBuildPartialMdl(PMDL Source, PMDL Target, PVOID Address, ULONG Length,
 /* A program's memory is pageable, and nobody has probed it. Where it can't be had the buffer stays as it was built. */
 static void give_programs_memory(Packet *p, PIO_STACK_LOCATION next)
 {
-    Block *old = p->bytes, *b = new_block(old->size, 0, WDM_POOL_ZERO | WDM_POOL_PAGED, p->sites.allocated);
+    Block *old = p->buffer.bytes, *b = new_block(old->size, 0, WDM_POOL_ZERO | WDM_POOL_PAGED, p->sites.allocated);
     if (!b)
         return;
     b->is_buffer = true;
@@ -218,7 +223,7 @@ static void give_programs_memory(Packet *p, PIO_STACK_LOCATION next)
         p->irp->UserBuffer = b->bytes;
     if (next->Parameters.DeviceIoControl.Type3InputBuffer == old->bytes)
         next->Parameters.DeviceIoControl.Type3InputBuffer = b->bytes;
-    p->bytes = b;
+    p->buffer.bytes = b;
     free_block(old, self.calls->at);
 }
 
@@ -226,37 +231,37 @@ static void give_programs_memory(Packet *p, PIO_STACK_LOCATION next)
    METHOD_NEITHER no system buffer: given at its first send, when its code is known. Under G. */
 void give_mdl(Packet *p)
 {
-    if (!p->direct || p->irp->MdlAddress || p->current < 2)
+    if (!p->buffer.direct || p->irp->MdlAddress || p->current < 2)
         return;
     const PIO_STACK_LOCATION next = raw_at(p, p->current - 1);
     const ULONG method = METHOD_FROM_CTL_CODE(next->Parameters.DeviceIoControl.IoControlCode);
     const bool is_control =
         next->MajorFunction == IRP_MJ_DEVICE_CONTROL || next->MajorFunction == IRP_MJ_INTERNAL_DEVICE_CONTROL;
-    if (next->MajorFunction == IRP_MJ_DEVICE_CONTROL && method == METHOD_NEITHER && p->bytes &&
+    if (next->MajorFunction == IRP_MJ_DEVICE_CONTROL && method == METHOD_NEITHER && p->buffer.bytes &&
         p->irp->AssociatedIrp.SystemBuffer) {
         if (!next->Parameters.DeviceIoControl.Type3InputBuffer)
-            next->Parameters.DeviceIoControl.Type3InputBuffer = p->bytes->bytes;
+            next->Parameters.DeviceIoControl.Type3InputBuffer = p->buffer.bytes->bytes;
         p->irp->AssociatedIrp.SystemBuffer = NULL;
         p->irp->Flags &= ~(ULONG)(IRP_BUFFERED_IO | IRP_DEALLOCATE_BUFFER);
         if (p->irp->RequestorMode == UserMode)
             give_programs_memory(p, next);
-        close_until_probed(p->bytes, p->irp->RequestorMode == UserMode);
+        close_until_probed(p->buffer.bytes, p->irp->RequestorMode == UserMode);
     }
     if (next->MajorFunction == IRP_MJ_DEVICE_CONTROL && method == METHOD_BUFFERED && p->irp->RequestorMode == UserMode)
         fill_behind_input(p, next->Parameters.DeviceIoControl.InputBufferLength);
     if (!is_control || (method != METHOD_IN_DIRECT && method != METHOD_OUT_DIRECT))
         return;
     const ULONG length = next->Parameters.DeviceIoControl.OutputBufferLength;
-    if (!p->writes_back && length && (p->direct_bytes = new_block(length, 0, WDM_POOL_ZERO, p->sites.allocated)))
-        p->direct_bytes->is_buffer = true;
-    PVOID out = p->writes_back ? p->irp->UserBuffer : p->direct_bytes ? p->direct_bytes->bytes : NULL;
+    if (!p->buffer.writes_back && length && (p->buffer.direct_bytes = new_block(length, 0, WDM_POOL_ZERO, p->sites.allocated)))
+        p->buffer.direct_bytes->is_buffer = true;
+    PVOID out = p->buffer.writes_back ? p->irp->UserBuffer : p->buffer.direct_bytes ? p->buffer.direct_bytes->bytes : NULL;
     if (!out || !length)
         return;
     lock_block(out, 1); /* for as long as it lives */
-    MmInitializeMdl(p->direct, out, length);
-    p->direct->MdlFlags |= MDL_PAGES_LOCKED;
-    p->irp->MdlAddress = p->direct;
-    p->writes_back = false; /* what is written there is in the caller's buffer already */
+    MmInitializeMdl(p->buffer.direct, out, length);
+    p->buffer.direct->MdlFlags |= MDL_PAGES_LOCKED;
+    p->irp->MdlAddress = p->buffer.direct;
+    p->buffer.writes_back = false; /* what is written there is in the caller's buffer already */
 }
 
 /* Who touches address 0 in a read or write may have wanted a buffer that the stack's topmost device doesn't ask for: says
@@ -266,7 +271,7 @@ const char *buffer_missing(const Packet *p)
     static char text[300];
     const int top = p->size ? p->at[p->size].device : NOBODY;
     *text = 0;
-    if (!p->bytes || p->irp->AssociatedIrp.SystemBuffer || top < 0 || (p->major != IRP_MJ_READ && p->major != IRP_MJ_WRITE))
+    if (!p->buffer.bytes || p->irp->AssociatedIrp.SystemBuffer || top < 0 || (p->major != IRP_MJ_READ && p->major != IRP_MJ_WRITE))
         return text;
     const int n = snprintf(text, sizeof text, "; IRP %u.%lu (%s) has %s and no SystemBuffer, because %s doesn't set "
                            "DO_BUFFERED_IO%s", p->slot, (unsigned long)p->use, major_name(p->major),

@@ -4,7 +4,8 @@
  * Who opens or closes one says so here. What a closed page has in it lies beside it, since it can't be read. That doesn't
  * change until the page closes again, so it has a stamp by which a snapshot knows what it has already.
  */
-#include "explore/snapshots.h"
+#include "mm/own.h"
+#include "explore/explore.h"
 #include <sys/mman.h>
 
 typedef enum { UNUSED, OPEN, CLOSED } State;

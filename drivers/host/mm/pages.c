@@ -6,7 +6,11 @@
  * Paged pool is closed whenever a thread's level is raised to DISPATCH_LEVEL, and opened by the first touch: the handler
  * sees at which level that thread touches it. Real threads may miss a touch, where another one has opened the block.
  */
+#include "mm/own.h"
 #include "explore/explore.h"
+#include "record/record.h"
+#include "rules/rules.h"
+#include <stdatomic.h>
 #include <sys/mman.h>
 
 enum { MAX_PAGES = 1 << 18, MAX_TOUCHES = 64, FENCED = 0xFD };
@@ -31,10 +35,7 @@ static bool has_arena(void)
 
 static bool wants_pages(const Block *b)
 {
-    static int all = -1;
-    if (all < 0)
-        all = getenv("WDM_PAGE_ENDS") != NULL;
-    return (all || (b->paged && !is_exploring)) && b->size <= 1 << 24 && has_arena();
+    return (options.page_ends || (b->paged && !is_exploring)) && b->size <= 1 << 24 && has_arena();
 }
 
 /* Also in the handler. */

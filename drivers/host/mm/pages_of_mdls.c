@@ -1,5 +1,10 @@
 /* pages_of_mdls.c: pages that are allocated with an MDL (MmAllocatePagesForMdlEx), and handles of objects by their pointers. */
-#include "rules/given.h"
+#include "mm/mm.h"
+#include "explore/explore.h"
+#include "ke/ke.h"
+#include "ob/ob.h"
+#include "record/record.h"
+#include "rules/rules.h"
 #include "wdm_callbacks.h"
 
 enum { MDL_TAG = 0x6c4d6d4d }; /* MmMl */

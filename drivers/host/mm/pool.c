@@ -5,7 +5,12 @@
  * while, and looked at before it goes. With WDM_PAGE_ENDS (pages.c) a block ends at a page's end, and a freed one is
  * in pages that nobody may touch: then the line itself is told. Under a sanitizer the memory is plain, and is its.
  */
-#include "host.h"
+#include "mm/own.h"
+#include "explore/explore.h"
+#include "io/io.h"
+#include "ke/ke.h"
+#include "record/record.h"
+#include "rules/rules.h"
 
 enum { FENCE = 16, FRESH = FRESH_BYTE, FENCED = 0xFD, FREED = 0xDD, MAX_KEPT = 4096, MAX_KEPT_BYTES = 1 << 25, BUCKETS = 4096, MANY = 100 };
 #if defined(__SANITIZE_ADDRESS__) || defined(__SANITIZE_THREAD__)
@@ -183,7 +188,7 @@ void free_block(Block *b, WDM_SITE at)
 {
     check_fences(b);
     if (b->lent_by)
-        b->lent_by->bytes = NULL;
+        b->lent_by->buffer.bytes = NULL;
     b->lent_by = NULL;
     check_gone(b->bytes, b->size, block_text(b));
     b->freed = true;

@@ -1,6 +1,10 @@
 /* sections.c: sections and files that a test made by their names. All others are refused, and the first refusal of each
    call says so. */
-#include "host.h"
+#include "explore/explore.h"
+#include "io/io.h"
+#include "ob/ob.h"
+#include "record/record.h"
+#include "rtl/rtl.h"
 
 typedef struct { UNICODE_STRING name; PVOID memory; SIZE_T size; bool is_file; FILE_OBJECT file; } Made;
 static struct _OBJECT_TYPE { const char *name; } section_type = { "section" };

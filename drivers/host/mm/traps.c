@@ -4,8 +4,14 @@
  * The first touch of an ended packet is remembered by the handler, and told at the thread's next call: a driver that
  * completes twice writes IoStatus first, and then the completion is the cause that is told, not the touch.
  */
-#include "explore/snapshots.h"
+#include "mm/own.h"
+#include "explore/explore.h"
+#include "io/io.h"
+#include "record/record.h"
+#include "rules/rules.h"
 #include <sys/mman.h>
+
+static void tell_touch(const char *call, PIRP irp);
 
 static char *arena;
 static bool is_on;
@@ -63,23 +69,23 @@ static void touched(int signal_number, siginfo_t *info, void *context)
     if (p && p->irp != (PIRP)(arena + i * PAGE))
         p = NULL; /* that page isn't used */
     const bool was_watched = p && unwatch(p);
-    const bool others_open_it = p && !was_watched && !__atomic_load_n(&p->shut, __ATOMIC_SEQ_CST);
+    const bool others_open_it = p && !was_watched && !__atomic_load_n(&p->page.is_shut, __ATOMIC_SEQ_CST);
     if (others_open_it || (was_watched && (!is_watcher(p) || is_code_of_holder(p, toucher_of(context))))) {
         if (was_watched && is_watcher(p))
             self.opened = p;
         open_page(i);
         return;
     }
-    if (!p || (!was_watched && p->trapped)) {
+    if (!p || (!was_watched && p->touch.is_trapped)) {
         crashed(signal_number, info, context);
         return;
     }
-    p->touched_by_sender = was_watched;
-    p->trapped = !was_watched;
-    p->touch_untold = true;
-    p->touched_at = toucher_of(context);
-    p->toucher = self.frames ? self.frames->device : NOBODY;
-    p->toucher_calls = called_driver(p->touched_at);
+    p->touch.is_senders = was_watched;
+    p->touch.is_trapped = !was_watched;
+    p->touch.is_untold = true;
+    p->touch.at = toucher_of(context);
+    p->touch.by = self.frames ? self.frames->device : NOBODY;
+    p->touch.calls = called_driver(p->touch.at);
     self.touched = p;
     open_page(i);
 }
@@ -93,7 +99,7 @@ void open_traps(void)
     if (arena == MAP_FAILED)
         give_up("no memory for packets");
     track_packets(arena);
-    is_on = !getenv("WDM_NO_TRAP");
+    is_on = !options.has_no_traps;
     struct sigaction s = { .sa_sigaction = touched, .sa_flags = SA_SIGINFO | SA_ONSTACK };
     if (by_snapshots)
         chain_handler(touched);
@@ -121,10 +127,10 @@ Packet *find(PIRP irp)
     touch(p->irp, WRITES);
     if (footprints && lets_go(self.calls->name))
         access_to(p->irp, true, NULL, false);
-    if (__atomic_load_n(&p->watched, __ATOMIC_SEQ_CST))
+    if (__atomic_load_n(&p->page.is_watched, __ATOMIC_SEQ_CST))
         unprotect(p);
-    while (p->rider)
-        p = p->rider;
+    while (p->stands_in.by)
+        p = p->stands_in.by;
     check_packet(p);
     return p;
 }
@@ -145,8 +151,8 @@ void unprotect(Packet *p)
 {
     if (!p->irp)
         p->irp = (PIRP)(arena + (size_t)p->slot * PAGE);
-    p->trapped = false;
-    __atomic_store_n(&p->shut, false, __ATOMIC_SEQ_CST);
+    p->touch.is_trapped = false;
+    __atomic_store_n(&p->page.is_shut, false, __ATOMIC_SEQ_CST);
     unwatch(p);
     if (is_in_page(p->irp))
         open_page((size_t)((char *)p->irp - arena) / PAGE);
@@ -154,7 +160,7 @@ void unprotect(Packet *p)
 
 void protect(Packet *p)
 {
-    if (is_on && !p->rides && is_in_page(p->irp))
+    if (is_on && !p->stands_in.of && is_in_page(p->irp))
         close_page((size_t)((char *)p->irp - arena) / PAGE);
 }
 
@@ -162,22 +168,22 @@ void protect(Packet *p)
    and not shut. */
 void shut(Packet *p)
 {
-    __atomic_store_n(&p->shut, true, __ATOMIC_SEQ_CST);
+    __atomic_store_n(&p->page.is_shut, true, __ATOMIC_SEQ_CST);
     protect(p);
 }
 
 static void tell(Packet *p)
 {
     char where[200], by[200]; /* `run` has the line in place of the address */
-    snprintf(by, sizeof by, p->toucher_calls < 0 ? "%s" : "(%s)",
-             p->toucher_calls < 0 ? who(p->toucher) : drivers[p->toucher_calls]->HostName);
-    snprintf(where, sizeof where, "+0x%lx in %s", place_in_program(p->touched_at), function_name(p->touched_at));
-    Call *const calls = self.calls, here = { .name = where, .by = p->touched_at };
+    snprintf(by, sizeof by, p->touch.calls < 0 ? "%s" : "(%s)",
+             p->touch.calls < 0 ? who(p->touch.by) : drivers[p->touch.calls]->HostName);
+    snprintf(where, sizeof where, "+0x%lx in %s", place_in_program(p->touch.at), function_name(p->touch.at));
+    Call *const calls = self.calls, here = { .name = where, .by = p->touch.at };
     Frame *const frames = self.frames;
-    p->touch_untold = false;
+    p->touch.is_untold = false;
     self.calls = (Call *)&here; /* not the call that runs, and perhaps not the routine either */
     self.frames = NULL;
-    if (p->touched_by_sender)
+    if (p->touch.is_senders)
         broken("TouchedAfterSend", p, "read or written by %s, which sent it at %s, and doesn't own it any more",
                by, place(p->sites.sent));
     else
@@ -190,18 +196,18 @@ static void tell(Packet *p)
 /* Whether the code that touched the packet may complete or free it by now: it has come back to it. */
 static bool is_back_by_now(const Packet *p)
 {
-    return p->touched_by_sender && p->owner != ENDED && !p->rider && (p->owner < 0 || p->owner == p->toucher);
+    return p->touch.is_senders && p->owner != ENDED && !p->stands_in.by && (p->owner < 0 || p->owner == p->touch.by);
 }
 
 /* At the thread's next call with a packet. A completion or free that comes too early, or a second one, is told instead. */
-void tell_touch(const char *call, PIRP irp)
+static void tell_touch(const char *call, PIRP irp)
 {
     Packet *p = self.touched;
     self.touched = NULL;
-    if (!p || !p->touch_untold)
+    if (!p || !p->touch.is_untold)
         return;
     if (irp == p->irp && !is_back_by_now(p) && (!strcmp(call, "IoCompleteRequest") || !strcmp(call, "IoFreeIrp")))
-        p->touch_untold = false;
+        p->touch.is_untold = false;
     else
         tell(p);
 }
@@ -210,6 +216,6 @@ void tell_touch(const char *call, PIRP irp)
 void tell_all_touches(void)
 {
     for (int i = 0; i < n_packets; i++)
-        if (packets[i]->touch_untold)
+        if (packets[i]->touch.is_untold)
             tell(packets[i]);
 }

@@ -1,5 +1,10 @@
 /* object_names.c: what objects are called, and what kind they are; drivers by their names; directories of objects. */
-#include "host.h"
+#include "ob/own.h"
+#include "explore/explore.h"
+#include "ke/ke.h"
+#include "pnp/pnp.h"
+#include "record/record.h"
+#include "rtl/rtl.h"
 
 typedef struct { UNICODE_STRING name; bool is_permanent, is_there; } Directory;
 static struct _OBJECT_TYPE { const char *name; } directory_type = { "directory" };

@@ -1,5 +1,11 @@
 /* objects.c: references to objects, handles, events by handle. */
-#include "host.h"
+#include "ob/own.h"
+#include "explore/explore.h"
+#include "io/io.h"
+#include "ke/ke.h"
+#include "record/record.h"
+#include "rtl/rtl.h"
+#include "rules/rules.h"
 
 struct _OBJECT_TYPE { const char *name; };
 static struct _OBJECT_TYPE event_type = { "event" }, file_type = { "file" }, thread_type = { "thread" },

@@ -1,5 +1,7 @@
 /* registry.c: a registry in memory, of keys by their whole paths. It is empty but for what the test and drivers set. */
-#include "host.h"
+#include "ob/ob.h"
+#include "explore/explore.h"
+#include "rtl/rtl.h"
 
 typedef struct Value {
     struct Value *next;

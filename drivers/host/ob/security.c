@@ -1,5 +1,4 @@
 /* security.c: identifiers, lists and descriptors, as wdm_security.h has them. */
-#include "host.h"
 #include "wdm_security.h"
 
 ULONG RtlLengthRequiredSid(ULONG Count) { return (ULONG)(offsetof(SID, SubAuthority) + Count * sizeof(ULONG)); }

@@ -1,5 +1,5 @@
 /* device_properties.c: properties of devices: those of the registry, and those with keys of their own. */
-#include "host.h"
+#include "ke/ke.h"
 
 enum { MAX_PROPERTIES = 256 };
 typedef struct { PDEVICE_OBJECT device; DEVPROPKEY key; DEVICE_REGISTRY_PROPERTY property; DEVPROPTYPE type; ULONG size;

@@ -1,14 +1,20 @@
 /* links_and_interfaces.c: names of devices, links, interfaces, notifications: what Plug and Play keeps of devices. */
-#include "host.h"
+#include "explore/explore.h"
+#include "io/io.h"
+#include "ke/ke.h"
+#include "mm/mm.h"
+#include "record/record.h"
+#include "rtl/rtl.h"
+#include "rules/rules.h"
 
 enum { MAX_NAMES = 256, MAX_LINK = 200, MAX_INSTANCES = 64 };
 typedef struct { UNICODE_STRING name, target; PDEVICE_OBJECT device; const GUID *class; bool is_enabled, leads_nowhere;
                  WDM_SITE made; int driver; } Name; /* made: of an interface, where it was enabled */
 typedef struct { IO_NOTIFICATION_EVENT_CATEGORY category; GUID class; PFILE_OBJECT file;
-                 PDRIVER_NOTIFICATION_CALLBACK_ROUTINE routine; PVOID context; int driver; WDM_SITE made; } Registration;
+                 PDRIVER_NOTIFICATION_CALLBACK_ROUTINE routine; PVOID context; int driver; WDM_SITE made; } Listener;
 static Name names[MAX_NAMES];
 static struct { PDEVICE_OBJECT device; WCHAR path[MAX_LINK / 2]; } instances[MAX_INSTANCES]; /* that the manager asked */
-static Registration registrations[64];
+static Listener registrations[64];
 static int n_names;
 
 /* The place of a name, or -1. Under G. */
@@ -251,11 +257,11 @@ NTSTATUS WdmIoRegisterDeviceInterface(PDEVICE_OBJECT Device, const GUID *Class, 
 }
 
 /* Who is to be called, if anyone. */
-static Registration registration_at(int i)
+static Listener registration_at(int i)
 {
     pthread_mutex_lock(&host_lock);
     touch(&registrations, READS);
-    const Registration r = registrations[i];
+    const Listener r = registrations[i];
     pthread_mutex_unlock(&host_lock);
     if (r.routine)
         point("a notification", (WDM_SITE){ 0 });
@@ -267,7 +273,7 @@ static void tell_interface(const GUID *class, PUNICODE_STRING link, const GUID *
 {
     DEVICE_INTERFACE_CHANGE_NOTIFICATION change = { 1, sizeof change, *event, *class, link };
     for (int i = 0; i < 64; i++) {
-        const Registration r = registration_at(i);
+        const Listener r = registration_at(i);
         if (r.routine && r.category == EventCategoryDeviceInterfaceChange && !memcmp(&r.class, class, sizeof *class))
             r.routine(&change, r.context);
     }
@@ -318,7 +324,7 @@ NTSTATUS WdmRegisterNotification(IO_NOTIFICATION_EVENT_CATEGORY Category, ULONG 
     while (i < 64 && registrations[i].routine)
         i++;
     if (i < 64) {
-        registrations[i] = (Registration){ .category = Category, .routine = Routine, .context = Context,
+        registrations[i] = (Listener){ .category = Category, .routine = Routine, .context = Context,
                                            .driver = Driver->HostNumber, .made = at };
         if (Category == EventCategoryDeviceInterfaceChange)
             registrations[i].class = *(const GUID *)Data;
@@ -341,7 +347,7 @@ NTSTATUS WdmRegisterNotification(IO_NOTIFICATION_EVENT_CATEGORY Category, ULONG 
 NTSTATUS WdmUnregisterNotification(PVOID Entry, WDM_SITE at)
 {
     Call c;
-    Registration *r = Entry;
+    Listener *r = Entry;
     enter_host(&c, "IoUnregisterPlugPlayNotification", at);
     touch(&registrations, WRITES);
     if (r < registrations || r >= registrations + 64 || !r->routine)
@@ -366,7 +372,7 @@ static bool is_on_stack(const FILE_OBJECT *file, PDEVICE_OBJECT device)
 NTSTATUS IoReportTargetDeviceChange(PDEVICE_OBJECT Device, PVOID Notification)
 {
     for (int i = 0; i < 64; i++) {
-        const Registration r = registration_at(i);
+        const Listener r = registration_at(i);
         if (r.routine && r.category == EventCategoryTargetDeviceChange && r.file && is_on_stack(r.file, Device))
             r.routine(Notification, r.context);
     }

@@ -3,8 +3,12 @@
  * Windows does it: "Adding a PnP Device to a Running System" and "Understanding When Remove IRPs Are Issued" of the WDK.
  * All of it runs on the manager's thread.
  */
-#include "host.h"
 #include "pnp/plug_and_play.h"
+#include "io/io.h"
+#include "ke/ke.h"
+#include "ob/ob.h"
+#include "record/record.h"
+#include "test/test.h"
 
 enum { MAX_NODES = 64, MAX_PLACED = 16 };
 
@@ -30,7 +34,7 @@ VOID WdmPutOnChildren(const char *Id, PDRIVER_OBJECT Driver)
 BOOLEAN WdmGoesOnChildren(const char *Name, PDRIVER_OBJECT Driver)
 {
     const size_t n = strlen(Name);
-    const char *text = getenv("WDM_ON");
+    const char *text = options.on_children;
     while (text && *text) {
         const char *id = strchr(text, '='), *end = id ? strchr(id, ';') : NULL;
         if (id && (size_t)(id - text) == n && !strncmp(text, Name, n)) {

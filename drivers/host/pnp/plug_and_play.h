@@ -21,12 +21,8 @@ PDEVICE_RELATIONS ask_relations(PDEVICE_OBJECT pdo, bool *answered);
 NTSTATUS plug_in(PDEVICE_OBJECT pdo);
 /* The device is asked whether it may go; where a driver doesn't agree, it is taken by surprise. */
 void unplug(PDEVICE_OBJECT pdo);
-void take_by_surprise(PDEVICE_OBJECT pdo);
 void remove_all(PDEVICE_OBJECT pdo);
 void look_for_children(PDEVICE_OBJECT pdo);
 void stop_and_start(PDEVICE_OBJECT pdo);
-
-/* passing.c: the host's own driver for a child that no other driver takes: it passes all down. */
-void take_child(PDEVICE_OBJECT pdo);
 
 #endif

@@ -1,6 +1,5 @@
 /* plug_and_play_asks.c: the requests by which the Plug and Play manager learns of a device. */
-#include "host.h"
-#include "pnp/plug_and_play.h"
+#include "pnp/own.h"
 
 typedef const IO_STACK_LOCATION *Like;
 

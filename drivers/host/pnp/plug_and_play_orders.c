@@ -1,6 +1,10 @@
 /* plug_and_play_orders.c: the thread of the Plug and Play manager, and what it is told to do. The queue is under G. */
-#include "host.h"
 #include "pnp/plug_and_play.h"
+#include "pnp/pnp.h"
+#include "explore/explore.h"
+#include "io/io.h"
+#include "ke/ke.h"
+#include "record/record.h"
 
 enum { MAX_ORDERS = 256 };
 typedef enum { LOOK_FOR_CHILDREN, PLUG_IN, STOP_AND_START, UNPLUG, SURPRISE, REMOVE_ALL } What;
@@ -145,3 +149,5 @@ VOID WdmSettlePlugAndPlay(VOID)
     touch(&n_orders, SYNCS);
     leave_host();
 }
+
+VOID IoInvalidateDeviceState(PDEVICE_OBJECT Device) { (void)Device; }

@@ -4,6 +4,11 @@
  * is unregistered (a note).
  */
 #include "pnp/pofx.h"
+#include "explore/explore.h"
+#include "ke/ke.h"
+#include "mm/mm.h"
+#include "record/record.h"
+#include "rules/rules.h"
 #include <stdarg.h>
 
 Registered *registered;

@@ -3,7 +3,7 @@
 #ifndef DRIVERS_POFX_H
 #define DRIVERS_POFX_H
 
-#include "rules/given.h"
+#include "pnp/pnp.h"
 #include "wdm_pofx.h"
 
 /* A callback was called, and its driver hasn't said yet, by this call, that it is done. */

@@ -1,5 +1,6 @@
 /* pofx_hints.c: what a driver tells the power framework of a component: how long it may take, and how long it will be idle. */
 #include "pnp/pofx.h"
+#include "ke/ke.h"
 
 VOID WdmPoFxSetLatency(POHANDLE Handle, ULONG Number, ULONGLONG Latency, WDM_SITE at)
 {

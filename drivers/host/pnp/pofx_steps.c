@@ -8,6 +8,9 @@
  * are told not to; all else comes from the framework's thread.
  */
 #include "pnp/pofx.h"
+#include "explore/explore.h"
+#include "ke/ke.h"
+#include "rules/rules.h"
 
 typedef enum { NO_STEP, BECOMES_ACTIVE, BECOMES_IDLE, CHANGES_STATE, POWER_ON, POWER_OFF } Kind_of_step;
 typedef struct { Kind_of_step kind; ULONG component, state; void *fn; } Step;
@@ -102,7 +105,7 @@ static void call_back(const Registered *r, const Step *s)
     Running running;
     PVOID context = r->asked.DeviceContext;
     begin_routine(&running, "a callback of the power framework", s->fn, r->driver, NOBODY,
-                  getenv("WDM_ROUTINES_HIGH") ? DISPATCH_LEVEL : PASSIVE_LEVEL);
+                  options.routines_high ? DISPATCH_LEVEL : PASSIVE_LEVEL);
     if (s->kind == BECOMES_ACTIVE)
         r->asked.ComponentActiveConditionCallback(context, s->component);
     else if (s->kind == BECOMES_IDLE)

@@ -1,6 +1,9 @@
 /* power_manager.c: the thread that sends what drivers ask for by PoRequestPowerIrp at DISPATCH_LEVEL to a stack that wants
    its power packets at PASSIVE_LEVEL, and the states that drivers report. Both are under G. */
-#include "host.h"
+#include "explore/explore.h"
+#include "ke/ke.h"
+#include "record/record.h"
+#include "rules/rules.h"
 
 static POWER_STATE reported[MAX_DEVICES][2]; /* of a device: of the system, of the device; unspecified at first */
 

@@ -1,6 +1,10 @@
 /* power_settings.c: power settings, whose values a test sets. Whether Windows calls a routine as soon as it is registered isn't
    known: here it is called where the value is set. */
-#include "ke/callbacks.h"
+#include "explore/explore.h"
+#include "ke/ke.h"
+#include "mm/mm.h"
+#include "record/record.h"
+#include "rules/rules.h"
 #include "wdm_power.h"
 #include "wdm_test.h"
 

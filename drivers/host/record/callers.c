@@ -1,4 +1,5 @@
 /* callers.c: which code of the program led to where a thread is. Addresses stand for lines: `run` puts these in. */
+#include "record/record.h"
 #include "explore/explore.h"
 #include <unwind.h>
 

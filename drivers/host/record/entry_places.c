@@ -1,6 +1,8 @@
 /* entry_places.c: FILE.places, beside the transcript FILE: whose code made each entry, and in which line. docs/FORMATS.md has
    its form. Nobody judges it. */
+#include "record/own.h"
 #include "explore/explore.h"
+#include "ke/ke.h"
 #include <fcntl.h>
 #include <sys/stat.h>
 #include <unistd.h>

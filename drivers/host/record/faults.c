@@ -1,6 +1,10 @@
 /* faults.c: faults and notes, on what standard error was at the start: a driver may close it, or open another file as
    descriptor 2. */
-#include "explore/schedule.h"
+#include "record/record.h"
+#include "explore/explore.h"
+#include "ke/ke.h"
+#include "mm/mm.h"
+#include "rules/rules.h"
 #include <fcntl.h>
 #include <unistd.h>
 
@@ -138,7 +142,7 @@ const char *who_of(const Packet *p, int device)
     if (device != ORIGINATOR || !p)
         return who(device);
     char *text = passing_text();
-    if (p->allocator < 0 || p->is_built)
+    if (p->allocator < 0 || p->built.by_manager)
         snprintf(text, 200, "its originator (built at %s)", place(p->sites.allocated));
     else
         snprintf(text, 200, "(%s), which %s it at %s", drivers[p->allocator]->HostName,

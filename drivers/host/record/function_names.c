@@ -1,5 +1,5 @@
 /* function_names.c: names for addresses of functions, out of the program's own symbol table, and for major codes. */
-#include "host.h"
+#include "record/record.h"
 #include <elf.h>
 #include <link.h>
 #include <sys/mman.h>
@@ -126,3 +126,13 @@ const char *major_name(int major)
         "DEVICE_CHANGE", "QUERY_QUOTA", "SET_QUOTA", "PNP" };
     return major >= 0 && major <= IRP_MJ_MAXIMUM_FUNCTION ? names[major] : "?";
 }
+
+/* Where a file of the host stands in its folder, or NULL where it is another one. */
+const char *path_in_host(const char *file)
+{
+    const size_t n = strlen(__FILE__) - strlen("record/function_names.c");
+    return file && !strncmp(file, __FILE__, n) ? file + n : NULL;
+}
+
+/* Whether a call is made by the host's own code, or its own drivers: they are never refused, for one. */
+bool is_hosts_file(const char *file) { return !file || path_in_host(file); }

@@ -1,5 +1,11 @@
 /* hangs.c: a wait that never ends, and what is in flight then. */
-#include "host.h"
+#include "record/own.h"
+#include "io/io.h"
+#include "ke/ke.h"
+#include "mm/mm.h"
+#include "pnp/pnp.h"
+#include "rules/rules.h"
+#include "test/test.h"
 
 enum { MOST_TOLD = 30 };
 
@@ -33,7 +39,7 @@ static CallSite holders_call(const Packet *p)
 /* A completion routine of the holder's has kept it, and the holder hasn't made it cancelable since. */
 static bool is_lost_by_routine(const Packet *p)
 {
-    return p->kept_by && !p->ran &&
+    return p->kept_by && !p->called &&
         (!p->sites.cancel.file || driver_of_file(p->sites.cancel.file) != devices[p->owner].driver->HostNumber);
 }
 
@@ -59,9 +65,9 @@ void tell_cancelled_and_held(const Packet *p)
     }
     const CallSite by = holders_call(p);
     fault_at("CancelledAndHeld", p, by.call, by.site, "was cancelled, and %s still holds it: %s%s. Sent at %s", who(p->owner),
-             p->ran ? "its cancel routine has run, and hasn't completed it: " :
+             p->called ? "its cancel routine has run, and hasn't completed it: " :
              "no cancel routine is set. if (Irp->Cancel && IoSetCancelRoutine(Irp, NULL) != NULL) complete it",
-             p->ran ? function_name((void *)p->ran) : "", place(p->sites.sent));
+             p->called ? function_name((void *)p->called) : "", place(p->sites.sent));
 }
 
 typedef struct { const Packet *p; uint64_t use; } Kept;

@@ -5,7 +5,10 @@
  * A handler may find the host's lock or the allocator's taken. So it tells the place first, takes the lock for a short
  * time only, and ends the process where the rest takes too long.
  */
-#include "explore/snapshots.h"
+#include "record/own.h"
+#include "explore/explore.h"
+#include "mm/mm.h"
+#include "rules/rules.h"
 #include <dlfcn.h>
 #include <signal.h>
 #include <sys/mman.h>
@@ -175,7 +178,7 @@ static bool is_any_asked(void)
 }
 
 /* Each other thread writes down where it is: of real threads, since others are where they wait. */
-void ask_places(void)
+static void ask_places(void)
 {
     const struct timespec moment = { 0, 1000000 };
     for (int s = 0; s < MAX_SEATS; s++)

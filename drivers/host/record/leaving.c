@@ -4,7 +4,7 @@
  * was left by it.
  */
 #undef _FORTIFY_SOURCE /* else longjmp is another function's name */
-#include "host.h"
+#include "record/own.h"
 #include <setjmp.h>
 #include <stddef.h>
 #include <unistd.h>

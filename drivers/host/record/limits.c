@@ -1,7 +1,8 @@
 /* limits.c: what the host does no more in a run. That is no fault of a driver's, and `run` tells it as what it is. */
-#include "explore/schedule.h"
-#include "test/requests.h"
+#include "record/record.h"
+#include "explore/explore.h"
 
+enum { USUAL_POINTS = 3000000 };
 static const char *reached;
 
 const char *limit_reached(void) { return reached; }
@@ -22,9 +23,5 @@ ULONG devices_left(void) { return (ULONG)(MAX_DEVICES - n_devices); }
 
 int most_points(void)
 {
-    static int most;
-    const char *text = getenv("WDM_POINTS");
-    if (!most)
-        most = text && atoi(text) > 0 ? atoi(text) : USUAL_POINTS;
-    return most;
+    return options.points > 0 ? options.points : USUAL_POINTS;
 }

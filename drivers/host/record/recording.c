@@ -1,5 +1,7 @@
 /* recording.c: entries, their numbers, and small numbers that stand for pointers. */
-#include "host.h"
+#include "record/own.h"
+#include "io/io.h"
+#include "mm/mm.h"
 
 Entry **history;
 size_t n_history;

@@ -2,13 +2,9 @@
 #ifndef DRIVERS_WRITING_H
 #define DRIVERS_WRITING_H
 
-#include "host.h"
+#include "record/own.h"
 
 typedef struct { FILE *out; uint64_t hash; } Text; /* out NULL: there is only the hash */
-
-/* transcript.c */
-uint64_t hash_transcript(size_t *n_entries); /* comes first, and gives ids their numbers */
-void write_transcript(FILE *out);
 
 /* transcript_output.c */
 void begin_hash(Text *t);

@@ -1,6 +1,6 @@
 /* printing.c: what drivers print for their debugger goes to standard error. Formats are those of the WDK: L"" strings
    and counted strings, %I64, and an `l` that stands for 32 bits. */
-#include "host.h"
+#include "record/record.h"
 
 #include <stdio.h>
 

@@ -1,5 +1,6 @@
 /* system_routines.c: routines that drivers look for by their names. Each is called as in the kit, so from nowhere. */
-#include "host.h"
+#include "ke/ke.h"
+#include "record/record.h"
 #include "wdm_share.h"
 
 static const WDM_SITE nowhere;

@@ -1,5 +1,5 @@
 /* text.c: counted strings. A string of bytes is UTF-8 here; letters are folded as far as Latin-1 goes. */
-#include "host.h"
+#include "rtl/rtl.h"
 
 /* Makes 16-bit characters of UTF-8. Returns how many there are; at most `room` of them are in `to`. */
 size_t to_wide(WCHAR *to, size_t room, const char *from, size_t count)

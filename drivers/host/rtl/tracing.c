@@ -1,5 +1,7 @@
 /* tracing.c: stops, event logs, WMI and event tracing. What is taken goes nowhere, and that is told once. */
-#include "host.h"
+#include "explore/explore.h"
+#include "ke/ke.h"
+#include "record/record.h"
 
 static const WDM_SITE nowhere;
 

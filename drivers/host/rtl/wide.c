@@ -1,5 +1,5 @@
 /* wide.c: text of 16-bit characters with a 0 at its end. Letters are folded as far as Latin-1 goes. */
-#include "host.h"
+#include "rtl/own.h"
 
 unsigned WdmTowupper(unsigned c)
 {

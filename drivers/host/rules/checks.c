@@ -1,5 +1,10 @@
 /* checks.c: the rules that Driver Verifier's users know, as data: name, stop code, title of the WDK's page, remedy. */
-#include "host.h"
+#include "rules/rules.h"
+#include "io/io.h"
+#include "ke/ke.h"
+#include "mm/mm.h"
+#include "record/record.h"
+#include "test/test.h"
 
 static const Check checks[] = {
     { "SelfDeadlock", "0xC4/0x1000", "Deadlock Detection", "release it first, or call a routine that expects it held" },

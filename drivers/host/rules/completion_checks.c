@@ -1,5 +1,8 @@
 /* completion_checks.c: what a packet is completed or passed down with: its length of data, its status of Plug and Play. */
-#include "host.h"
+#include "rules/own.h"
+#include "io/io.h"
+#include "record/record.h"
+#include "test/test.h"
 
 enum { FIRST_UNKNOWN = 0x1a, RESERVED = 0x0e };
 
@@ -118,7 +121,7 @@ void check_dispatch_there(const Packet *p, int d, UCHAR major)
 /* A device that has the packet completes it. */
 void check_completion(const Packet *p, int by, ULONG status, uint64_t information)
 {
-    if (by < 0 || p->skipped || p->current > p->size || p->at[p->current].device != by || is_between(devices[by].raw))
+    if (by < 0 || p->next.skipped || p->current > p->size || p->at[p->current].device != by || is_between(devices[by].raw))
         return;
     const IO_STACK_LOCATION *l = raw_at((Packet *)p, p->current);
     const bool is_control = l->MajorFunction == IRP_MJ_DEVICE_CONTROL || l->MajorFunction == IRP_MJ_INTERNAL_DEVICE_CONTROL;
@@ -150,7 +153,7 @@ void remember_act(const char *call)
 static void check_handled(const Packet *p, const Frame *f, UCHAR minor, ULONG status)
 {
     if (minor == IRP_MN_SURPRISE_REMOVAL && f->acted && p->asking == f && status == (ULONG)STATUS_NOT_SUPPORTED &&
-        (p->skipped || !p->want))
+        (p->next.skipped || !p->next.set))
         broken("StatusNotSet", p, "%s calls %s for IRP_MN_SURPRISE_REMOVAL, and passes that down with STATUS_NOT_SUPPORTED, with "
                "which it came", function_name(f->fn), f->acted);
 }

@@ -1,6 +1,11 @@
 /* freed_with_objects.c: memory that goes, a pool block or a deleted device's extension, with a packet, timer, deferred call, work item
    or lock in it. */
-#include "host.h"
+#include "rules/own.h"
+#include "io/io.h"
+#include "ke/ke.h"
+#include "mm/mm.h"
+#include "pnp/pnp.h"
+#include "record/record.h"
 
 void check_gone(const void *from, size_t size, const char *what)
 {

@@ -2,7 +2,10 @@
  * given.c: what a driver has to give back before it is unloaded: timers, lists, adapters, registrations. What it leaves is told
  * at the call that gave it. All of it is under G.
  */
-#include "rules/given.h"
+#include "rules/rules.h"
+#include "explore/explore.h"
+#include "ke/ke.h"
+#include "record/record.h"
 
 typedef struct Given {
     struct Given *next;

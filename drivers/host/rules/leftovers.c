@@ -1,5 +1,9 @@
 /* leftovers.c: what a driver has left when its DriverUnload returns. On Windows its code is gone then. */
-#include "host.h"
+#include "rules/own.h"
+#include "ke/ke.h"
+#include "mm/mm.h"
+#include "pnp/pnp.h"
+#include "record/record.h"
 
 static const char RULE[] = "LeftBehind";
 
@@ -24,7 +28,7 @@ static void tell_own_packets(int driver)
     for (int i = 0; i < n_packets; i++) {
         const Packet *p = packets[i];
         const bool is_allocated = is_in_page(p->irp), is_idle = p->owner < 0 && !p->asking;
-        if (p->live && p->owner != ENDED && p->allocator == driver && !p->is_built && !p->rides &&
+        if (p->live && p->owner != ENDED && p->allocator == driver && !p->built.by_manager && !p->stands_in.of &&
             (is_allocated || !is_idle)) /* its own memory is told of by itself */
             fault_at(RULE, p, is_allocated ? "IoAllocateIrp" : "IoInitializeIrp", p->sites.allocated,
                      "the packet is there after DriverUnload");

@@ -5,7 +5,10 @@
  * a fast mutex raises it to APC_LEVEL. With WDM_ROUTINES_HIGH, and with each odd seed, completion routines begin at
  * DISPATCH_LEVEL: Windows may call them so. wdm_levels.h has further calls, all of PASSIVE_LEVEL.
  */
-#include "host.h"
+#include "rules/own.h"
+#include "ke/ke.h"
+#include "mm/mm.h"
+#include "record/record.h"
 
 /* NO_LOCK: no spin lock may be held. WAITS: the same of a call that takes no time where its limit is zero, so whoever
    makes it asks. A call that isn't here may be made at any level. */
@@ -190,12 +193,7 @@ void check_dispatch_level(const Packet *p, UCHAR major, int device)
 
 static bool routines_begin_high(void)
 {
-    static int is_so = -1;
-    if (is_so < 0) {
-        const char *seed = getenv("WDM_SHAKE"), *high = getenv("WDM_ROUTINES_HIGH");
-        is_so = high != NULL || (seed && strtoul(seed, NULL, 10) % 2);
-    }
-    return is_so;
+    return options.routines_high || options.shake % 2;
 }
 
 /* A driver's code begins: `irql` is the least level at which it does, then the level at which it did. */

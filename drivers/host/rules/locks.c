@@ -4,7 +4,10 @@
  * Where A is taken before B here and B before A there, two threads can stand still, and that is told without their
  * doing so. Locks that were always taken under one and the same third lock can't: then nothing is told.
  */
-#include "host.h"
+#include "rules/rules.h"
+#include "explore/explore.h"
+#include "ke/ke.h"
+#include "record/record.h"
 
 enum { MAX_NESTED = 32, MAX_ORDERS = 1024, MAX_GATES = 4, MAX_WAY = 8 };
 typedef struct { Hold held[MAX_NESTED]; int n; } Holds;

@@ -3,7 +3,8 @@
  * are compared with what the host wrote, at each call: the first call that finds a change tells it, in the name of the
  * driver whose code ran last on this thread, and the change is undone.
  */
-#include "host.h"
+#include "io/io.h"
+#include "record/record.h"
 
 /* Whose code ran on this thread since the host's last call. */
 static const char *who_ran(void)
@@ -55,21 +56,21 @@ void leave_location(Packet *p, int j)
 {
     if (j > p->size)
         return;
-    if (!p->above)
-        p->above = calloc((size_t)p->size + 1, sizeof *p->above);
-    if (!p->above)
+    if (!p->kept.above)
+        p->kept.above = calloc((size_t)p->size + 1, sizeof *p->kept.above);
+    if (!p->kept.above)
         give_up("out of memory");
-    p->above[j] = *raw_at(p, j);
-    p->left |= 1ull << j;
+    p->kept.above[j] = *raw_at(p, j);
+    p->kept.left |= 1ull << j;
 }
 
 static void check_words(Packet *p, int here)
 {
     const PIRP irp = p->irp;
-    if (irp->StackCount != p->stack_count) {
+    if (irp->StackCount != p->kept.stack_count) {
         const int was = irp->StackCount;
-        irp->StackCount = p->stack_count;
-        overwritten(p, "Irp->StackCount was %d, and %d was written", p->stack_count, was);
+        irp->StackCount = p->kept.stack_count;
+        overwritten(p, "Irp->StackCount was %d, and %d was written", p->kept.stack_count, was);
     }
     if (!is_skipped_by_hand(p) && !is_moved_by_hand(p) &&
         (irp->CurrentLocation != here || irp->Tail.Overlay.CurrentStackLocation != raw_at(p, here))) {
@@ -83,20 +84,20 @@ static void check_words(Packet *p, int here)
 /* At a call on the packet. */
 void check_packet(Packet *p)
 {
-    if (!lives(p) || p->trapped)
+    if (!lives(p) || p->touch.is_trapped)
         return;
     take_own_location(p);
-    const bool one_up = (p->asking && p->asking->kind == ROUTINE) || (p->asking && p->skipped);
+    const bool one_up = (p->asking && p->asking->kind == ROUTINE) || (p->asking && p->next.skipped);
     const int here = p->current + one_up;
     check_words(p, here);
     for (int j = here + 1; j <= p->size; j++) {
         IO_STACK_LOCATION *raw = raw_at(p, j);
-        if (!(p->left >> j & 1))
+        if (!(p->kept.left >> j & 1))
             continue;
-        p->above[j].Control = raw->Control; /* the pending bit is the host's */
-        if (!memcmp(raw, &p->above[j], sizeof *raw))
+        p->kept.above[j].Control = raw->Control; /* the pending bit is the host's */
+        if (!memcmp(raw, &p->kept.above[j], sizeof *raw))
             continue;
-        *raw = p->above[j];
+        *raw = p->kept.above[j];
         overwritten(p, "the location of %s was written to, while the packet is below it", who(p->at[j].device));
     }
 }

@@ -5,7 +5,8 @@
  * A driver may keep packets to send them again. So only one is told that allocated another while so many of the same place lay
  * idle, and whose packets are all there at the end.
  */
-#include "host.h"
+#include "rules/rules.h"
+#include "mm/mm.h"
 
 enum { MANY = 5, MOST_PLACES = 256 };
 static struct { WDM_SITE at; int live, driver; bool leaks; } places[MOST_PLACES];
@@ -27,7 +28,7 @@ static int count_idle(WDM_SITE at)
     int n = 0;
     for (int i = 0; i < n_packets; i++) {
         const Packet *p = packets[i];
-        n += p->live && p->owner == ORIGINATOR && !p->asking && !p->rides && p->sites.sent.file && is_in_page(p->irp) &&
+        n += p->live && p->owner == ORIGINATOR && !p->asking && !p->stands_in.of && p->sites.sent.file && is_in_page(p->irp) &&
             p->sites.allocated.file == at.file && p->sites.allocated.line == at.line;
     }
     return n;
@@ -35,7 +36,7 @@ static int count_idle(WDM_SITE at)
 
 void packet_allocated(const Packet *p)
 {
-    const int i = p->allocator == NOBODY || p->is_built ? -1 : place_of(p->sites.allocated);
+    const int i = p->allocator == NOBODY || p->built.by_manager ? -1 : place_of(p->sites.allocated);
     if (i < 0)
         return;
     places[i].driver = p->allocator;
@@ -45,7 +46,7 @@ void packet_allocated(const Packet *p)
 
 void packet_freed(const Packet *p)
 {
-    const int i = p->allocator == NOBODY || p->is_built ? -1 : place_of(p->sites.allocated);
+    const int i = p->allocator == NOBODY || p->built.by_manager ? -1 : place_of(p->sites.allocated);
     if (i >= 0 && places[i].live > 0)
         places[i].live--;
 }

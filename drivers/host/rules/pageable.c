@@ -1,6 +1,8 @@
 /* pageable.c: code that a driver's source puts into a pageable section (building.py finds it). At DISPATCH_LEVEL the code that
    runs has to be there. */
-#include "host.h"
+#include "rules/rules.h"
+#include "ke/ke.h"
+#include "record/record.h"
 
 /* `of` is the entry of the driver whose code it is, or NULL of what isn't one driver's alone. */
 extern const struct { const char *file, *function; PDRIVER_INITIALIZE of; } wdm_pageable[] __attribute__((weak));

@@ -8,10 +8,10 @@
  * irp_live isn't that program: it takes only final entries, and here a settled one may still change, since the reply of
  * a send comes when it returns.
  */
-#include "host.h"
+#include "rules/rules.h"
 
 /* How many devices stand from this one down. */
-int rules_stack_size(int device)
+static int rules_stack_size(int device)
 {
     int n = 0;
     for (; device >= 0; device = devices[device].lower)
@@ -88,7 +88,7 @@ static const char *location_refusal(const Entry *e)
     const char *no = party_refusal(e);
     if (no)
         return no;
-    return e->by == ORIGINATOR ? "NoLocation" : e->p->prep == SKIPPED ? "AfterSkip" : NULL;
+    return e->by == ORIGINATOR ? "NoLocation" : e->p->next.how == SKIPPED ? "AfterSkip" : NULL;
 }
 
 static const char *call_refusal(const Entry *e)
@@ -101,7 +101,7 @@ static const char *call_refusal(const Entry *e)
         return "DeviceGone";
     if (e->by != ORIGINATOR && devices[e->by].lower != e->other)
         return "WrongTarget";
-    if (p->prep == NOTHING)
+    if (p->next.how == NOTHING)
         return "NotPrepared";
     if (p->current - 1 < rules_stack_size(e->other))
         return "TooShort";
@@ -113,10 +113,10 @@ static const char *preparing_refusal(const Entry *e)
     const char *no = e->op == COPY ? location_refusal(e) : party_refusal(e);
     if (no)
         return no;
-    if (e->p->prep == SKIPPED)
+    if (e->p->next.how == SKIPPED)
         return "AfterSkip";
     if (e->op == SET_ROUTINE)
-        return e->p->prep == NOTHING ? "NotPrepared" : NULL;
+        return e->p->next.how == NOTHING ? "NotPrepared" : NULL;
     if (e->p->current == 1)
         return "TooShort";
     return e->op == SET_NEXT && e->major > IRP_MJ_MAXIMUM_FUNCTION ? "BadMajor" : NULL;

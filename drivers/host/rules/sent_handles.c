@@ -1,8 +1,9 @@
 /* sent_handles.c: handles that the host's own test sends in the input of controls, as a program does: of an event, of a file, and
    one that is closed. A driver takes the object by it in the program's thread, as one of the type that it uses, and gives
    its reference back. */
-#include "host.h"
-#include "test/requests.h"
+#include "rules/rules.h"
+#include "ke/ke.h"
+#include "ob/ob.h"
 
 static PVOID objects[2]; /* of the event, of the file */
 

@@ -1,7 +1,9 @@
 /* stack_blocks.c: what lies on the stack of a dispatch, or of a routine, that has returned: a packet's IoStatusBlock or event
    while the packet is in flight, and an event that somebody sets. What lies there then is another's: it is told, and not
    written to. */
-#include "host.h"
+#include "explore/explore.h"
+#include "io/io.h"
+#include "record/record.h"
 
 enum { MOST = 256 };
 typedef struct { Packet *p; uint64_t use; const Frame *status_of, *event_of; } Blocks;
@@ -95,7 +97,7 @@ void check_blocks(const Frame *f)
         fault_at("StackBlock", b.p, "IoBuild", b.p->sites.allocated, "its %s lies on the stack of %s, which has returned "
                  "while the packet is in flight; not written to", b.status_of == f ? "IoStatusBlock" : "event",
                  what_runs(f));
-        b.p->status_is_gone |= b.status_of == f;
-        b.p->event_is_gone |= b.event_of == f;
+        b.p->built.status_gone |= b.status_of == f;
+        b.p->built.event_gone |= b.event_of == f;
     }
 }

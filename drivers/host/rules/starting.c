@@ -3,7 +3,11 @@
  * is used before the devices below it are started; for drivers of a Windows before Vista, power packets that are passed on
  * without PoStartNextPowerIrp.
  */
-#include "host.h"
+#include "rules/rules.h"
+#include "io/io.h"
+#include "ke/ke.h"
+#include "mm/mm.h"
+#include "record/record.h"
 
 enum { MAX_OLD = 64 };
 

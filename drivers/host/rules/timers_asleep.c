@@ -1,5 +1,7 @@
 /* timers_asleep.c: timers that are armed when their device's driver lets the power go, and go off meanwhile. Under G. */
-#include "host.h"
+#include "ke/ke.h"
+#include "pnp/pnp.h"
+#include "record/record.h"
 
 enum { MAX_ASLEEP = 64 };
 static struct { PKTIMER timer; int device; } asleep[MAX_ASLEEP];

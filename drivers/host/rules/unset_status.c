@@ -1,6 +1,8 @@
 /* unset_status.c: a status that nobody has set when a request is completed. Until somebody does, a pattern stands there in place of the
    I/O manager's zero. A request of Plug and Play, of power or of WMI comes with a status of its own. */
-#include "host.h"
+#include "rules/rules.h"
+#include "io/io.h"
+#include "record/record.h"
 
 enum { NEVER_SET = 0x4dcdcdcd }; /* of a status of success */
 
@@ -9,7 +11,7 @@ enum { NEVER_SET = 0x4dcdcdcd }; /* of a status of success */
 void expect_status(Packet *p)
 {
     extern VOID IrpxForget(VOID) __attribute__((weak));
-    const bool is_programs = p->is_built && p->allocator == NOBODY;
+    const bool is_programs = p->built.by_manager && p->allocator == NOBODY;
     if (IrpxForget || !is_programs || p->asking || p->current != p->size + 1 || p->irp->IoStatus.Status != STATUS_SUCCESS)
         return;
     const UCHAR major = raw_at(p, p->current - 1)->MajorFunction;

@@ -1,5 +1,7 @@
 /* used_after_free.c: objects of the kernel that are used in memory which has gone: a freed pool block, a deleted device's extension. */
-#include "host.h"
+#include "rules/rules.h"
+#include "mm/mm.h"
+#include "record/record.h"
 
 static int gone_device(const void *object)
 {

@@ -3,13 +3,16 @@
  * page is closed. The first one to touch it opens it: who owns it by now, or the host; or the code that sent it, which
  * doesn't own it any more, and that is told. It needs no luck with the packet's end.
  */
-#include "host.h"
+#include "io/io.h"
+#include "ke/ke.h"
+#include "mm/mm.h"
+#include "record/record.h"
 
 /* The packet, or the innermost one that stands in for it and is on its way. */
 static const Packet *innermost(const Packet *p)
 {
-    while (p->rider && p->rider->owner != ORIGINATOR)
-        p = p->rider;
+    while (p->stands_in.by && p->stands_in.by->owner != ORIGINATOR)
+        p = p->stands_in.by;
     return p;
 }
 
@@ -31,15 +34,15 @@ static bool is_back(const Packet *p, int by) { return p->asking && p->asking->de
    routine, a rider is below. */
 static bool is_away(const Packet *p, int by)
 {
-    const Packet *r = p->rider;
-    if (!lives(p) || p->rides || p->unwinding || is_of(p, r ? r->owner : p->owner, by))
+    const Packet *r = p->stands_in.by;
+    if (!lives(p) || p->stands_in.of || p->unwinding || is_of(p, r ? r->owner : p->owner, by))
         return false;
     return r ? !r->unwinding && r->owner >= 0 : !is_back(p, by);
 }
 
 static void watch(Packet *p)
 {
-    __atomic_store_n(&p->watched, true, __ATOMIC_SEQ_CST);
+    __atomic_store_n(&p->page.is_watched, true, __ATOMIC_SEQ_CST);
     protect(p);
 }
 
@@ -48,9 +51,9 @@ void watch_sent(Packet *p, int by, uint64_t use)
 {
     if (!self.frames || p->use != use || !is_in_page(p->irp) || !is_away(p, by))
         return;
-    __atomic_store_n(&p->watcher, self.frames->number, __ATOMIC_SEQ_CST);
-    __atomic_store_n(&p->watcher_calls, self.calls->up, __ATOMIC_SEQ_CST);
-    p->sent_by = by;
+    __atomic_store_n(&p->page.frame, self.frames->number, __ATOMIC_SEQ_CST);
+    __atomic_store_n(&p->page.calls, self.calls->up, __ATOMIC_SEQ_CST);
+    p->page.sent_by = by;
     watch(p);
 }
 
@@ -59,21 +62,21 @@ void watch_again(void)
 {
     Packet *p = self.opened;
     self.opened = NULL;
-    if (self.frames && self.frames->number == p->watcher && self.calls->up == p->watcher_calls && is_away(p, p->sent_by))
+    if (self.frames && self.frames->number == p->page.frame && self.calls->up == p->page.calls && is_away(p, p->page.sent_by))
         watch(p);
 }
 
 /* In the handler, or under G: the packet isn't watched any more. Returns whether it was. */
 bool unwatch(Packet *p)
 {
-    return __atomic_exchange_n(&p->watched, false, __ATOMIC_SEQ_CST);
+    return __atomic_exchange_n(&p->page.is_watched, false, __ATOMIC_SEQ_CST);
 }
 
 /* In the handler: whether it is the code that sent the packet. */
 bool is_watcher(const Packet *p)
 {
-    return self.frames && self.frames->number == __atomic_load_n(&p->watcher, __ATOMIC_SEQ_CST) &&
-        self.calls == __atomic_load_n(&p->watcher_calls, __ATOMIC_SEQ_CST);
+    return self.frames && self.frames->number == __atomic_load_n(&p->page.frame, __ATOMIC_SEQ_CST) &&
+        self.calls == __atomic_load_n(&p->page.calls, __ATOMIC_SEQ_CST);
 }
 
 /* In the handler: whether the code at this place is of the driver that has the packet. It may have sent the packet to

@@ -4,7 +4,8 @@
  * later, from another thread. It is written as a driver.
  */
 #include <wdm.h>
-#include "host.h"
+#include "test/own.h"
+#include "record/record.h"
 
 enum { MOMENT = 5, MOST_MOMENTS = 200 }; /* milliseconds; and how many of them */
 typedef struct { PDEVICE_OBJECT Self, Lower; } BETWEEN, *PBETWEEN;
@@ -116,7 +117,7 @@ int count_attached(void) { return n_attached; }
 /* Whether this call, by a driver, gets a device of the host's between it and what is below. */
 static bool is_chosen(PDEVICE_OBJECT target, WDM_SITE at)
 {
-    const char *wish = getenv("WDM_PEND");
+    const char *wish = options.pend;
     pthread_mutex_lock(&host_lock);
     const bool is_drivers = !is_hosts_file(at.file) && devices[target->HostNumber].live;
     const int n = n_attached += is_drivers;

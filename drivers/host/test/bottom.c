@@ -155,7 +155,7 @@ static NTSTATUS SystemControl(PDEVICE_OBJECT DeviceObject, PIRP Irp)
     return Complete(Irp, Irp->IoStatus.Status, Irp->IoStatus.Information);
 }
 
-static NTSTATUS Entry(PDRIVER_OBJECT DriverObject, PUNICODE_STRING RegistryPath)
+static NTSTATUS BottomEntry(PDRIVER_OBJECT DriverObject, PUNICODE_STRING RegistryPath)
 {
     UNREFERENCED_PARAMETER(RegistryPath);
     for (int i = 0; i <= IRP_MJ_MAXIMUM_FUNCTION; i++)
@@ -182,7 +182,7 @@ PDEVICE_OBJECT WdmCreateBottomOf(ULONG Style)
 {
     PDEVICE_OBJECT device = NULL;
     if (!driver)
-        driver = WdmLoadDriver("bottom", Entry);
+        driver = WdmLoadDriver("bottom", BottomEntry);
     if (!NT_SUCCESS(IoCreateDevice(driver, sizeof(BOTTOM), NULL, FILE_DEVICE_BUS_EXTENDER, 0, FALSE, &device)))
         return NULL;
     PBOTTOM ext = device->DeviceExtension;

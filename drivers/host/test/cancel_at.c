@@ -4,7 +4,10 @@
  * call, from another thread, which is through or waits before the call goes on. WDM_CANCEL=count lists all of them in the
  * summary.
  */
-#include "explore/schedule.h"
+#include "explore/explore.h"
+#include "io/io.h"
+#include "ke/ke.h"
+#include "record/record.h"
 #include <unistd.h>
 
 enum { MAX_REQUESTS = 512, MAX_PLACES = 8192, MOMENT = 100, MOST_MOMENTS = 500 }; /* MOMENT: microseconds */
@@ -20,7 +23,7 @@ static _Thread_local bool cancels;
 
 static void read_wish(void)
 {
-    const char *wish = getenv("WDM_CANCEL");
+    const char *wish = options.cancel;
     counts = wish && !strcmp(wish, "count");
     places = counts ? calloc(MAX_PLACES, sizeof *places) : NULL;
     if (wish && !counts && sscanf(wish, "%d@%d", &wanted_request, &wanted_call) != 2)

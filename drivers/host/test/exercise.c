@@ -120,7 +120,7 @@ static void send_handle(PDEVICE_OBJECT top, HANDLE handle)
 static void use_handles(PDEVICE_OBJECT top, PFILE_OBJECT file)
 {
     HANDLE handles[2];
-    if (!getenv("WDM_HANDLES") || !make_sent_handles(file, handles))
+    if (!options.sends_handles || !make_sent_handles(file, handles))
         return;
     send_handle(top, handles[0]);
     send_handle(top, handles[1]);
@@ -286,7 +286,7 @@ static void load_all(void)
         is_on_children[i] = loaded[i] && WdmGoesOnChildren(wdm_drivers[i].name, loaded[i]);
         has_stack |= loaded[i] && loaded[i]->DriverExtension->AddDevice && !is_on_children[i];
     }
-    begin_situations(has_stack, !getenv("WDM_HOLDS_NONE"));
+    begin_situations(has_stack, !options.holds_none);
 }
 
 int main(void)
@@ -295,9 +295,8 @@ int main(void)
         { 0, SITUATION_AT_ONCE }, { WDM_BOTTOM_LATE, SITUATION_LATER },
         { WDM_BOTTOM_LATE | WDM_BOTTOM_PENDS_ALL, SITUATION_PENDS_ALL }, { WDM_BOTTOM_FAILS, SITUATION_FAILS },
         { WDM_BOTTOM_NO_START, SITUATION_NO_START } };
-    const char *number = getenv("WDM_THREADS");
-    const int threads = number ? atoi(number) : 1;
-    is_short = getenv("WDM_SHORT") != NULL;
+    const int threads = options.threads;
+    is_short = options.is_short;
     read_controls();
     load_all();
     for (size_t i = 0; i < ARRAYSIZE(bottoms); i++)

@@ -329,7 +329,7 @@ static void unplug_while_read(PDEVICE_OBJECT top)
 static void await_own_packet(void)
 {
     LARGE_INTEGER moment = { .QuadPart = -10000 };
-    const BOOLEAN is_pended = getenv("WDM_PEND") != NULL;
+    const BOOLEAN is_pended = options.pend != NULL;
     keep_own_packets(is_pended);
     for (int i = 0; is_pended && i < MOST_FOR_TIMERS && own_packets() == OWN_ENDED; i++)
         KeDelayExecutionThread(KernelMode, FALSE, &moment);

@@ -1,5 +1,6 @@
 /* named_tests.c: the `main` of a program whose tests are named by WDM_TEST: it runs the one that the environment names
    in WDM_TEST, or all of them. `names` prints their names. */
+#include "options.h"
 #include "wdm_test.h"
 #include <stdio.h>
 
@@ -13,7 +14,7 @@ VOID WdmAddTest(WDM_NAMED *Test)
 
 int main(int argc, char **argv)
 {
-    const char *wanted = getenv("WDM_TEST");
+    const char *wanted = options.test;
     int n_run = 0;
     for (const WDM_NAMED *it = first; it; it = it->Next)
         if (argc > 1 && !strcmp(argv[1], "names"))

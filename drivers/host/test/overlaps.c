@@ -11,6 +11,7 @@
  * The I/O manager frees the requests at their end, as nearly all on Windows, so that a dispatch that touches its packet after
  * another thread could end it is told. Only that of a driver elsewhere is freed by its sender.
  */
+#include "options.h"
 #include "test/situations.h"
 #include "wdm_test.h"
 #include <pthread.h>
@@ -378,7 +379,7 @@ static void play_on_stack(PDRIVER_OBJECT *loaded, const char *scenario)
 int main(void)
 {
     PDRIVER_OBJECT loaded[64] = { NULL };
-    const char *scenario = getenv("WDM_SCENARIO") ? getenv("WDM_SCENARIO") : "overlap";
+    const char *scenario = options.scenario;
     for (int i = 0; i < wdm_n_drivers && i < 64; i++)
         loaded[i] = WdmLoadDriver(wdm_drivers[i].name, wdm_drivers[i].entry);
     play_on_stack(loaded, scenario);

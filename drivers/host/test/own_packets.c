@@ -1,8 +1,10 @@
 /* own_packets.c: packets that drivers allocate and send, for the host's own test: one is on its way when the device goes. */
-#include "host.h"
 #include "test/requests.h"
+#include "io/io.h"
+#include "ke/ke.h"
+#include "mm/mm.h"
 
-static bool is_own(const Packet *p) { return p->allocator != NOBODY && !p->is_built && !p->rides; }
+static bool is_own(const Packet *p) { return p->allocator != NOBODY && !p->built.by_manager && !p->stands_in.of; }
 
 /* Whether a driver allocated the packet, and not the test or the I/O manager for it. */
 bool is_drivers_own(PIRP irp)

@@ -1,6 +1,6 @@
 /* passing.c: the host's own driver for a child of a bus that no other driver takes. It passes all down, so that the bus
    driver's code for its children runs. It is written as a driver. */
-#include "pnp/plug_and_play.h"
+#include "test/test.h"
 
 typedef struct { PDEVICE_OBJECT Lower; } EXTENSION;
 
@@ -40,7 +40,7 @@ static NTSTATUS AddDevice(PDRIVER_OBJECT DriverObject, PDEVICE_OBJECT Pdo)
     return STATUS_SUCCESS;
 }
 
-static NTSTATUS Entry(PDRIVER_OBJECT DriverObject, PUNICODE_STRING RegistryPath)
+static NTSTATUS PassingEntry(PDRIVER_OBJECT DriverObject, PUNICODE_STRING RegistryPath)
 {
     UNREFERENCED_PARAMETER(RegistryPath);
     for (int i = 0; i <= IRP_MJ_MAXIMUM_FUNCTION; i++)
@@ -54,7 +54,7 @@ void take_child(PDEVICE_OBJECT pdo)
 {
     static PDRIVER_OBJECT driver;
     if (!driver)
-        driver = WdmLoadDriver("passing", Entry);
+        driver = WdmLoadDriver("passing", PassingEntry);
     if (driver)
         WdmAddDevice(driver, pdo);
 }

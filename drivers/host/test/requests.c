@@ -1,7 +1,8 @@
 /* requests.c: one request of the host's own test, and which control codes a stack knows. */
-#include "explore/schedule.h"
 #include "test/bottom_answers.h"
 #include "test/requests.h"
+#include "explore/explore.h"
+#include "ke/ke.h"
 
 enum { MOST_FOR_TIMERS = 300 }; /* milliseconds */
 enum { ANSWER_IS_LONGER = 4095 }; /* a control of this length has less input */
@@ -21,7 +22,7 @@ What control(int i, ULONG length)
 BOOLEAN is_control(UCHAR major) { return major == IRP_MJ_DEVICE_CONTROL || major == IRP_MJ_INTERNAL_DEVICE_CONTROL; }
 What transfer(UCHAR major, ULONG length) { return (What){ major, length, 0, 0 }; }
 BOOLEAN is_held(Request *r) { return KeReadStateEvent(&r->done) == 0; }
-BOOLEAN is_held_by_driver(Request *r) { return is_held(r) && !(bottom && bottom_holds(bottom)); }
+static BOOLEAN is_held_by_driver(Request *r) { return is_held(r) && !(bottom && bottom_holds(bottom)); }
 
 void made_with(PDEVICE_OBJECT top, UCHAR major, Situation s, const char *why_not)
 {
@@ -163,7 +164,7 @@ static const char *next_code(const char *text, ULONG *code)
 void read_controls(void)
 {
     ULONG code;
-    for (const char *at = getenv("WDM_CONTROLS"); at && *at;) {
+    for (const char *at = options.controls; at && *at;) {
         at = next_code(at, &code);
         add_control(code, IRP_MJ_DEVICE_CONTROL);
     }
@@ -186,14 +187,14 @@ static void tell_controls(PDEVICE_OBJECT top)
                                          SITUATION_CONTROL_CANCELLED, SITUATION_CONTROL_CLEANUP };
     const BOOLEAN knows = top->DriverObject->MajorFunction[IRP_MJ_DEVICE_CONTROL] != NULL;
     for (size_t i = 0; i < ARRAYSIZE(needing); i++)
-        if (!knows || (!n_controls && !getenv("WDM_CANDIDATES") && !getenv("WDM_READS_CODES")))
+        if (!knows || (!n_controls && !options.candidates && !options.reads_codes))
             not_there(needing[i], knows ? "the source names no control code" : "no driver takes IRP_MJ_DEVICE_CONTROL");
         else
             not_made(needing[i], n_controls ? "each control was completed at once" :
                      "no driver took a control code: give --controls");
     if (n_controls)
         made(SITUATION_CONTROLS);
-    if (!getenv("WDM_HANDLES"))
+    if (!options.sends_handles)
         not_there(SITUATION_HANDLES, "the source takes no object by a handle that it is sent");
     else if (!n_controls)
         not_made(SITUATION_HANDLES, "no driver took a control code: give --controls");
@@ -205,9 +206,9 @@ static void tell_controls(PDEVICE_OBJECT top)
    structure of the sender's comes can't be sent. Returns whether it could. */
 static BOOLEAN try_inside(PDEVICE_OBJECT top, ULONG code)
 {
-    if (!getenv("WDM_INTERNAL"))
+    if (options.internals < 0)
         return TRUE;
-    if (atoi(getenv("WDM_INTERNAL")) && METHOD_FROM_CTL_CODE(code) != METHOD_NEITHER) {
+    if (options.internals && METHOD_FROM_CTL_CODE(code) != METHOD_NEITHER) {
         make_request(top, (What){ IRP_MJ_INTERNAL_DEVICE_CONTROL, ROOM_INSIDE, code, 0 }, PLAIN, 20);
         if (control_is_taken(code))
             add_control(code, IRP_MJ_INTERNAL_DEVICE_CONTROL);
@@ -226,7 +227,7 @@ static void tell_inside(BOOLEAN are_sent)
     else if (!are_sent)
         not_made(SITUATION_INTERNALS, "a structure of the sender's comes with it: send it in a test of your own");
     else
-        not_there(SITUATION_INTERNALS, getenv("WDM_INTERNAL") ? "no driver takes a code of its source that way" :
+        not_there(SITUATION_INTERNALS, options.internals >= 0 ? "no driver takes a code of its source that way" :
                   "no driver has a dispatch of its own for them");
 }
 
@@ -234,7 +235,7 @@ static BOOLEAN find_candidates(PDEVICE_OBJECT top)
 {
     BOOLEAN are_sent = TRUE;
     ULONG code;
-    for (const char *at = getenv("WDM_CANDIDATES"); at && *at;) {
+    for (const char *at = options.candidates; at && *at;) {
         at = next_code(at, &code);
         const BOOLEAN is_taken = !is_refused(answer_to(top, code));
         control_sent(code, is_taken);

@@ -3,7 +3,9 @@
 #define DRIVERS_REQUESTS_H
 
 #include "wdm_test.h"
+#include "options.h"
 #include "test/situations.h"
+#include "test/told_to_tests.h"
 
 /* What is asked of a stack: a major function, a buffer's length, the code of a control, and each number of its input. */
 typedef struct { UCHAR major; ULONG length, code, number; } What;
@@ -21,9 +23,8 @@ enum { MOST_READS = 8 }; /* until one waits for what isn't there */
 
 /* The device of the host's below the stack that is tested, or NULL. */
 extern PDEVICE_OBJECT bottom;
-/* Whether it is on its way; whether a driver of the stack has it then. */
+/* Whether it is on its way. */
 BOOLEAN is_held(Request *r);
-BOOLEAN is_held_by_driver(Request *r);
 
 /* It was made with a request of this major, or why it wasn't: it can't be where the uppermost driver has no dispatch for it. */
 void made_with(PDEVICE_OBJECT top, UCHAR major, Situation s, const char *why_not);
@@ -46,30 +47,6 @@ void use_for_paging(PDEVICE_OBJECT top);
 typedef enum { NO_OWN, OWN_ENDED, OWN_IN_FLIGHT } OwnPackets;
 OwnPackets own_packets(void);
 void keep_own_packets(BOOLEAN keeps);
-
-/* timers_asleep.c: the milliseconds until a timer goes off that was armed when its device's driver let the power go, at least 1, or 0
-   where there is none; and how often one did. */
-ULONG next_timer_asleep(void);
-unsigned long timers_rung_asleep(void);
-
-/* limits.c: how many devices drivers and the host may make yet. */
-ULONG devices_left(void);
-
-/* files.c: opens the device with a name behind its own. */
-PFILE_OBJECT WdmOpenBehind(PDEVICE_OBJECT Top, PCWSTR Name, WDM_SITE at);
-
-/* Whether each device from this one down to the bottom one has a remove lock that was acquired. */
-BOOLEAN WdmHaveRemoveLocks(PDEVICE_OBJECT Top, PDEVICE_OBJECT Bottom);
-
-/* hangs.c: whether a driver holds it once nothing else goes on; tells that driver, where IRP_MN_SURPRISE_REMOVAL is over, or what
-   kept the device from use. */
-BOOLEAN WdmIsKept(PIRP Irp);
-VOID WdmTellKept(PIRP Irp);
-VOID WdmTellHeld(PIRP Irp, const char *Over);
-
-/* sent_handles.c: handles of a program, of an event and of this file. */
-BOOLEAN make_sent_handles(PFILE_OBJECT file, HANDLE made[2]);
-void close_sent_handles(const HANDLE made[2]);
 
 /* What is asked for, and what a control of the i-th code asks for. An internal one, of another driver, has room for whatever
    its code may need. */

@@ -1,7 +1,10 @@
 /* restored.c: whether a device that had no power, or was asked to stop or to go, is as before once that is over: it answers a
    write, a read and each control as it did, and ends those that came meanwhile. */
-#include "host.h"
 #include "test/requests.h"
+#include "ke/ke.h"
+#include "mm/mm.h"
+#include "record/record.h"
+#include "rules/rules.h"
 
 enum { MOST_ASKED = 18, LENGTH = 16, MOMENT = 10, TIMES = 3 }; /* milliseconds */
 

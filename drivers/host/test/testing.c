@@ -1,11 +1,17 @@
 /* testing.c: what wdm_test.h has: loading drivers, building and sending packets, and the end of a run. */
 #include "explore/explore.h"
-#include "record/transcript.h"
+#include "io/io.h"
+#include "ke/ke.h"
+#include "mm/mm.h"
+#include "ob/ob.h"
+#include "pnp/pnp.h"
+#include "record/record.h"
+#include "rtl/rtl.h"
+#include "rules/rules.h"
 #include <errno.h>
 
 PDRIVER_OBJECT drivers[MAX_DRIVERS];
 int n_drivers;
-static const char *stopped_by; /* why the run couldn't go on */
 
 /* A driver fails where it had all that it asked for. */
 static void tell_failed(const char *what, PDRIVER_OBJECT driver, NTSTATUS status, WDM_SITE at)
@@ -27,7 +33,7 @@ static void tell_initializing(PDRIVER_OBJECT driver, int first)
         Call c;
         enter_quietly(&c, "IoCreateDevice", devices[d].created);
         const bool is_left = devices[d].live && devices[d].driver == driver && devices[d].raw->Flags & DO_DEVICE_INITIALIZING;
-        if (is_left && getenv("WDM_WINE"))
+        if (is_left && options.is_wines)
             note("DO_DEVICE_INITIALIZING", "AddDevice of %s leaves DO_DEVICE_INITIALIZING set", driver->HostName);
         else if (is_left)
             broken("StillInitializing", NULL, "AddDevice of %s returns, and %s still has DO_DEVICE_INITIALIZING",
@@ -149,19 +155,19 @@ static void give_buffer(PIRP irp, PDEVICE_OBJECT top, UCHAR major, ULONG length,
     Call c;
     enter_host(&c, "WdmBuildIrp", (WDM_SITE){ 0 });
     Packet *p = find(irp);
-    MDL *mdl = p->buffer = host_memory(2 * sizeof *mdl);
-    p->bytes = mdl ? new_block(length, 0, WDM_POOL_ZERO, at) : NULL;
-    if (!p->bytes)
+    MDL *mdl = p->buffer.given = host_memory(2 * sizeof *mdl);
+    p->buffer.bytes = mdl ? new_block(length, 0, WDM_POOL_ZERO, at) : NULL;
+    if (!p->buffer.bytes)
         give_up("out of memory");
-    p->bytes->is_buffer = true;
-    MmInitializeMdl(mdl, p->bytes->bytes, length);
+    p->buffer.bytes->is_buffer = true;
+    MmInitializeMdl(mdl, p->buffer.bytes->bytes, length);
     mdl->MdlFlags |= MDL_PAGES_LOCKED;
-    irp->UserBuffer = p->bytes->bytes;
-    if (!is_transfer || top->Flags & DO_BUFFERED_IO || getenv("WDM_WINE"))
-        irp->AssociatedIrp.SystemBuffer = p->bytes->bytes;
+    irp->UserBuffer = p->buffer.bytes->bytes;
+    if (!is_transfer || top->Flags & DO_BUFFERED_IO || options.is_wines)
+        irp->AssociatedIrp.SystemBuffer = p->buffer.bytes->bytes;
     else if (top->Flags & DO_DIRECT_IO)
         irp->MdlAddress = mdl;
-    p->direct = mdl + 1;
+    p->buffer.direct = mdl + 1;
     leave_host();
 }
 
@@ -188,7 +194,7 @@ static void frees_itself(PIRP irp)
 {
     Call c;
     enter_host(&c, "WdmBuildIrp", (WDM_SITE){ 0 });
-    find(irp)->is_built = true;
+    find(irp)->built.by_manager = true;
     remember_blocks(find(irp));
     leave_host();
 }
@@ -249,95 +255,9 @@ NTSTATUS WdmSendAndWait(PDEVICE_OBJECT Top, UCHAR Major, UCHAR Minor, ULONG Leng
     return iosb.Status;
 }
 
-/* What `run` reads: one key and value a line. */
-static void write_summary(size_t entries)
-{
-    const char *path = getenv("WDM_SUMMARY");
-    FILE *f = path ? open_high(path) : NULL;
-    if (!f)
-        return;
-    fprintf(f, "entries %zu\nwanted %zu\nfaults %d\nnotes %d\n", entries, expected_entries(), n_faults, n_notes);
-    if (stopped_by)
-        fprintf(f, "stopped %s\n", stopped_by);
-    if (limit_reached())
-        fprintf(f, "limit %s\n", limit_reached());
-    fprintf(f, "allocations %d\nattached %d\n%s", n_allocations, count_attached(),
-            memory_was_refused() || was_cancelled_there() || getenv("WDM_PEND") ? "disturbed 1\n" : "");
-    write_cancel_places(f);
-    write_allocations(f);
-    tell_expected(f);
-    write_covered(f);
-    fclose(f);
-}
-
-/* The transcript goes to WDM_TRANSCRIPT, or else to standard output. Returns how many entries it has. Under G. */
-size_t write_out(void)
-{
-    const char *path = getenv("WDM_TRANSCRIPT");
-    size_t n;
-    if (!wants_transcript())
-        return expected_entries();
-    FILE *out = is_exploring ? NULL : path ? open_high(path) : stdout;
-    if (!out && !is_exploring) {
-        say("%s: %s", path, strerror(errno));
-        end_process(5);
-    }
-    tell_all_touches();
-    tell_block_touches();
-    check_pool();
-    tell_refused();
-    tell_cancelled_there();
-    tell_repeats();
-    learn_reached();
-    const uint64_t hash = hash_transcript(&n);
-    if (out)
-        write_transcript(out);
-    if (n < n_history)
-        say("the transcript ends before entry %zu, a send that hasn't returned; %zu entries more aren't in it", n,
-            n_history - n - 1);
-    if (out == stdout)
-        fflush(out);
-    else if (out)
-        fclose(out);
-    if (path && out)
-        write_places(path, n);
-    hand_in(hash, n);
-    write_summary(n);
-    say("%zu entr%s, %d fault%s%s, %d note%s", n, n == 1 ? "y" : "ies", n_faults, n_faults == 1 ? "" : "s",
-        stopped_by ? " (one of them that it stopped)" : "", n_notes, n_notes == 1 ? "" : "s");
-    if (n_early)
-        say("recorded before the dispatch returned, since another thread had the packet: %d", n_early);
-    return n;
-}
-
-/* The run can't go on: what the threads are in and which packets are in flight is told, what was recorded is written,
-   and the process ends. Under G, which is never given back. */
-void stop_run(const char *why)
-{
-    stopped_by = why;
-    note_fault(why);
-    tell_others();
-    tell_locks_held();
-    tell_packets();
-    write_out();
-    end_run(3);
-}
-
-/* The host gives up, at this call. */
-void give_up(const char *why)
-{
-    const bool has_place = self.calls && self.calls->at.file;
-    begin_last_words();
-    n_faults++;
-    say("STOPPED: %s%s%s%s", why, has_place ? ", at " : "", has_place ? place(self.calls->at) : "",
-        has_place ? callers_of(self.calls) : "");
-    stop_run(why);
-}
-
 ULONG WdmRounds(ULONG Usual)
 {
-    const char *text = getenv("WDM_ROUNDS");
-    const ULONG most = text ? (ULONG)strtoul(text, NULL, 10) : 0;
+    const ULONG most = (ULONG)options.rounds;
     return most && most < Usual ? most : Usual;
 }
 

@@ -1,8 +1,11 @@
 /* usages.c: a paging file comes onto the device and goes from it, and comes where the device below refuses that. Then each driver
    of the stack is as it was: the flag of its device object, and what in its extension changes with each such file. */
-#include "host.h"
 #include "test/bottom_answers.h"
-#include "test/requests.h"
+#include "test/test.h"
+#include "ke/ke.h"
+#include "mm/mm.h"
+#include "record/record.h"
+#include "rules/rules.h"
 
 enum { MOST_DEVICES = 16 };
 typedef uint32_t Word;

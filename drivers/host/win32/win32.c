@@ -1,5 +1,10 @@
 /* win32.c: what win32/win32.h has: threads, waits and locks of Win32 over the host's own. */
-#include "host.h"
+#include "explore/explore.h"
+#include "ke/ke.h"
+#include "mm/mm.h"
+#include "ob/ob.h"
+#include "record/record.h"
+#include "rtl/rtl.h"
 #include "win32/win32.h"
 #include "win32/wine/test.h"
 #include <poll.h>
@@ -181,7 +186,7 @@ int WdmSelect(long Socket, HANDLE Event)
 VOID WdmSay(const char *What, const char *Function, const char *Format, ...)
 {
     va_list list;
-    if (!getenv("WDM_SAYS"))
+    if (!options.says)
         return;
     DbgPrint("%s in %s: ", What, Function);
     va_start(list, Format);
@@ -191,7 +196,7 @@ VOID WdmSay(const char *What, const char *Function, const char *Format, ...)
 
 VOID WdmCheck(int Holds, const char *File, int Line, const char *Format, ...)
 {
-    if (Holds || !getenv("WDM_SAYS"))
+    if (Holds || !options.says)
         return;
     va_list list;
     DbgPrint("check failed at %s:%d: ", File, Line);

@@ -1,5 +1,4 @@
 /* win32_registry.c: what win32/winreg.h has: the registry of Win32 over the host's own. */
-#include "host.h"
 #include "win32/winreg.h"
 
 enum { MOST_NAME = 256, MOST_DATA = 1024 };

@@ -1,6 +1,7 @@
 /* functions_that_ran.c: which functions of drivers ran, where they are compiled with -finstrument-functions: for the sum of many runs, and where a driver
    has pageable code. */
-#include "host.h"
+#include "test/own.h"
+#include "rules/rules.h"
 
 void __cyg_profile_func_enter(void *fn, void *caller);
 void __cyg_profile_func_exit(void *fn, void *caller);

@@ -3,8 +3,8 @@
  * completion routines that met an error, cancel routines that were called. Processes of an exploration share it, so that
  * it is of all orders. The summary of a run and the report of an exploration have it as lines, and `run` joins those.
  */
-#include "host.h"
-#include "test/situations.h"
+#include "test/test.h"
+#include "record/record.h"
 #include <stdatomic.h>
 #include <sys/mman.h>
 

@@ -1,6 +1,6 @@
 /* reached.c: which completion routines met an error, which cancel routines were called, and which dispatches there are: by the
    history and the drivers, at the end of a run. */
-#include "host.h"
+#include "test/own.h"
 
 static void learn(const Asked *a)
 {
