@@ -367,7 +367,7 @@ WRONG_HOSTS = [
        "p->irp->PendingReturned = p->returned = false;")]),
     ("a kept packet is the originator's", [("settling.c", "    p->owner = f->device;\n    p->asking",
                                             "    p->owner = ORIGINATOR;\n    p->asking")]),
-    ("a skip is written as a forward", [("transcript.c", '"[\\"skip\\"]"', '"[\\"forward\\",null]"')]),
+    ("a skip is written as a forward", [("transcript.c", ".plan = (IrpxPlan)a->plan,", ".plan = a->plan == SKIPS ? IRPX_FORWARD : (IrpxPlan)a->plan,")]),
     ("the pending bit isn't passed up",
      [("completion.c", "else if (l.pending && j < p->size)", "else if (0 && j < p->size)")]),
     ("routines on error are always asked",

@@ -77,7 +77,7 @@ def for_host(edited=()):
     cc = os.environ.get("CC", "cc")
     objects = compiled([cc, "-std=gnu11", *STRICT, *HOST], BUILT + "/for_host", *players(HERE + "/on_host"))
     sources = [path for name, path in sorted(host_files.sources().items()) if name[:-2] not in HOSTS_OWN]
-    compiler = [cc, "-std=c11", "-g", "-O1", *HOST, f"-I{DRIVERS}", f"-I{DRIVERS}/host"]
+    compiler = [cc, "-std=c11", "-g", "-O1", f"-I{DRIVERS}/host", *HOST, f"-I{DRIVERS}"]
     host = compiled(compiler, BUILT + "/host", [], sources)
     program = BUILT + "/player"
     if edited:

@@ -11,7 +11,7 @@ sys.path.append(DRIVERS)
 import host_files  # noqa: E402 (the path is set above)
 INCLUDES = ["-I" + DRIVERS, "-I" + HERE]
 HOST_FLAGS = ["-g", "-O1", "-fshort-wchar", "-D_GNU_SOURCE", "-pthread", "-I" + DRIVERS + "/include", *INCLUDES]
-HOST_COMPILER = ["cc", "-std=c11", *HOST_FLAGS, "-I" + DRIVERS + "/host"]
+HOST_COMPILER = ["cc", "-std=c11", "-I" + DRIVERS + "/host", *HOST_FLAGS]  # drivers/ has a folder rules/ too
 STRICT = ["-std=c11", "-Wall", "-Wextra", "-Werror"]
 HEADERS = "/usr/x86_64-w64-mingw32/include/ddk"
 RECORDER = sorted(f"{DRIVERS}/recorder/{name}" for name in os.listdir(DRIVERS + "/recorder") if name.endswith(".c"))

@@ -24,10 +24,8 @@ __attribute__((noreturn)) void end_at(const char *why);
 /* leaving.c */
 void watch_for_jumps_and_forks(void);
 
-/* recording.c */
-extern const char *const op_names[];
-
 /* transcript.c */
 extern Ids ids;
+const char *op_name(Op op);
 
 #endif

@@ -8,10 +8,6 @@ size_t n_history;
 int n_sends;
 static size_t room;
 
-const char *const op_names[] = { "create_device", "attach", "detach", "delete", "allocate", "free", "reuse", "set_next",
-    "copy_to_next", "skip", "set_routine", "mark_pending", "call_driver", "complete", "set_cancel_routine", "cancel",
-    "look" };
-
 /* A device that kept or finished the packet may have been detached since it was asked: the entry comes behind that. */
 static void look_below(Entry *e)
 {
@@ -140,7 +136,7 @@ void refuse(Entry *e, const char *name)
     if (e->p && !second && !strcmp(name, "NotOwner"))
         snprintf(holder, sizeof holder, "; the packet is with %s", who_of(e->p, e->p->owner));
     if (is_expected_refusal(name))
-        note("a refusal that the test expects", "%s is refused: %s", op_names[e->op], name);
+        note("a refusal that the test expects", "%s is refused: %s", op_name(e->op), name);
     else if (e->op <= REMOVE)
         fault(rule, NULL, "refused for %s%s", who(e->device),
               !strcmp(name, "NotDrained") ? held_tags(e->device) : !strcmp(name, "InFlight") ? packet_at(e->device) : "");

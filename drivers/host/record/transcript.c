@@ -1,16 +1,22 @@
-/* transcript.c: the transcript, as docs/FORMATS.md says of form 2. */
+/* transcript.c: the history as a transcript. recorder/lines.h has its lines. */
 #include "record/transcript.h"
+#include "recorder/lines.h"
 
-typedef enum { WATCH, CHANGE, KEEPER, KEEP_ON_ERROR, FREE_RULE } Rule;
-static const char *const rule_names[] = { "watch", "change", "keeper", "keep_on_error", "free" };
+_Static_assert((int)CREATE == IRPX_CREATE && (int)FREE == IRPX_FREED && (int)LOOK == IRPX_LOOK, "calls in one order");
+_Static_assert((int)DISPATCH == IRPX_DISPATCH && (int)CANCELLING == IRPX_CANCELLING, "kinds in one order");
+_Static_assert((int)UNKNOWN == IRPX_UNDECIDED && (int)LEAVE == IRPX_LEAVE, "plans in one order");
+_Static_assert((int)NONE_YET == IRPX_NONE_YET && (int)REFUSED == IRPX_REFUSED, "replies in one order");
+
 typedef struct { int seat, lock, to; const char *act, *reply; uint64_t tag; unsigned step; } Word;
 
 Ids ids;
-static bool finishes[MAX_IDS], leaves[MAX_IDS];
+static unsigned char finishes[MAX_IDS], leaves[MAX_IDS];
 static int n_declared;
-static struct { PIO_COMPLETION_ROUTINE fn; Rule rule; } declared[64];
+static struct { PIO_COMPLETION_ROUTINE fn; IrpxRule rule; } declared[64];
 static Word *words;
 static size_t n_words, words_room;
+
+const char *op_name(Op op) { return irpx_ops[op]; }
 
 /* A step on a remove lock. */
 void record_word(const char *act, int lock, PVOID tag, const char *reply, int by, int to)
@@ -27,12 +33,10 @@ void record_word(const char *act, int lock, PVOID tag, const char *reply, int by
 
 VOID WdmDeclareRule(PIO_COMPLETION_ROUTINE Routine, const char *Rule_)
 {
-    for (Rule r = WATCH; r <= FREE_RULE; r++)
-        if (!strcmp(Rule_, rule_names[r]) && n_declared < 64)
+    for (IrpxRule r = IRPX_WATCH; r < IRPX_RULES; r++)
+        if (!strcmp(Rule_, irpx_rules[r]) && n_declared < 64)
             declared[n_declared].fn = Routine, declared[n_declared++].rule = r;
 }
-
-static const char *yes(bool b) { return b ? "true" : "false"; }
 
 static int id_in(void **table, int *n, void *fn)
 {
@@ -46,246 +50,124 @@ static int id_in(void **table, int *n, void *fn)
 }
 
 /* The declared rule; else the smallest that fits what this setting's routine answered. */
-static Rule rule_of(const Setting *s)
+static IrpxRule rule_of(const Setting *s)
 {
     for (int i = 0; i < n_declared; i++)
         if (declared[i].fn == s->fn)
             return declared[i].rule;
-    return s->kept ? s->replaced ? FREE_RULE : KEEPER : s->replaced ? CHANGE : WATCH;
+    return s->kept ? s->replaced ? IRPX_FREE_RULE : IRPX_KEEPER : s->replaced ? IRPX_CHANGE : IRPX_WATCH;
 }
 
-static int routine_of(const Setting *s) { return id_in(ids.routines[rule_of(s)], &ids.n_routines[rule_of(s)], (void *)s->fn); }
 static int dispatch_of(void *fn) { return id_in(ids.dispatches, &ids.n_dispatches, fn); }
-static int cancel_of(PDRIVER_CANCEL fn) { return id_in(ids.cancels, &ids.n_cancels, (void *)fn); }
 
-static void put_party(Text *t, int by)
+static int cancel_of(PDRIVER_CANCEL fn)
 {
-    if (by < 0)
-        put(t, "\"o\"");
-    else
-        put(t, "%d", by);
+    return fn ? id_in(ids.cancels, &ids.n_cancels, (void *)fn) : IRPX_NONE;
 }
 
-static void put_setting(Text *t, const Setting *s)
+static IrpxLineSetting setting_of(const Setting *s)
 {
     if (!s)
-        put(t, "null");
-    else
-        put(t, "[\"%s\",%d,%lu,\"%s%s%s\"]", rule_names[rule_of(s)], routine_of(s), (unsigned long)s->context,
-            s->flags & SL_INVOKE_ON_SUCCESS ? "s" : "", s->flags & SL_INVOKE_ON_ERROR ? "e" : "",
-            s->flags & SL_INVOKE_ON_CANCEL ? "c" : "");
+        return (IrpxLineSetting){ 0 };
+    const IrpxRule rule = rule_of(s);
+    return (IrpxLineSetting){ 1, rule, id_in(ids.routines[rule], &ids.n_routines[rule], (void *)s->fn), s->context, s->flags };
 }
 
-static void put_cancel(Text *t, PDRIVER_CANCEL c)
-{
-    if (c)
-        put(t, "%d", cancel_of(c));
-    else
-        put(t, "null");
-}
-
-static void put_plan(Text *t, const Asked *a)
-{
-    put(t, "{\"dispatch\":%d,\"plan\":", dispatch_of(a->fn));
-    if (a->plan == FINISH)
-        put(t, "[\"finish\",%u,%lu]", a->new_status, (unsigned long)a->new_information);
-    else if (a->plan == SKIPS)
-        put(t, "[\"skip\"]");
-    else if (a->plan == HOLD) {
-        put(t, "[\"hold\",");
-        put_cancel(t, a->cancel);
-        put(t, "]");
-    } else {
-        put(t, "[\"%s\",", a->plan == FORWARD ? "forward" : "forward_pend");
-        put_setting(t, a->set);
-        put(t, "]");
-    }
-}
-
-static void put_answer(Text *t, const Asked *a)
-{
-    if (a->kind == ROUTINE) {
-        put(t, "{\"answer\":[\"%s\",%s,", a->plan == KEEP ? "keep" : "continue", yes(a->mark));
-        if (a->replaced)
-            put(t, "[%u,%lu]", a->new_status, (unsigned long)a->new_information);
-        else
-            put(t, "null");
-        put(t, "],\"completion\":[\"%s\",%d]", rule_names[rule_of(a->set)], routine_of(a->set));
-    } else {
-        if (a->plan == FINISH)
-            put(t, "{\"answer\":[\"finish\",%lu],\"cancel\":", (unsigned long)a->new_information);
-        else
-            put(t, "{\"answer\":[\"leave\"],\"cancel\":");
-        put_cancel(t, a->cancel);
-    }
-}
-
+/* A routine gets its number where its line names it. */
 static void put_asked(Text *t, const Entry *e, const Asked *a)
 {
-    if (a->kind == DISPATCH)
-        put_plan(t, a);
-    else
-        put_answer(t, a);
-    put(t, ",\"shown\":[");
-    if (a->device < 0)
-        put(t, "null");
-    else
-        put(t, "%d", a->device);
-    put(t, ",");
-    put_irp(t, e->slot, e->use);
-    put(t, ",%d,%d,%lu,%u,%lu,%s,%s,%lu,%s]}", a->major, a->location, (unsigned long)a->word, a->status,
-        (unsigned long)a->information, yes(a->returned), yes(e->cancel), (unsigned long)a->context, yes(a->has_lower));
+    const bool sets = a->kind == ROUTINE || (a->kind == DISPATCH && (a->plan == FORWARD || a->plan == FORWARD_PEND));
+    const bool cancels = a->kind == CANCELLING || (a->kind == DISPATCH && a->plan == HOLD);
+    const IrpxLineAsked made = {
+        .kind = (IrpxKind)a->kind, .plan = (IrpxPlan)a->plan, .dispatch = a->kind == DISPATCH ? dispatch_of(a->fn) : IRPX_NONE,
+        .cancel = cancels ? cancel_of(a->cancel) : IRPX_NONE, .set = setting_of(sets ? a->set : NULL), .mark = a->mark,
+        .replaced = a->replaced, .new_status = a->new_status, .new_information = a->new_information, .slot = e->slot,
+        .use = e->use, .device = a->device < 0 ? IRPX_NONE : a->device, .major = a->major, .location = a->location,
+        .returned = a->returned, .cancelled = e->cancel, .has_lower = a->has_lower, .word = a->word, .status = a->status,
+        .information = a->information, .context = a->context };
+    line_asked(&t->lines, &made);
 }
 
-/* A call's keys stand in byte order. */
 static void put_call(Text *t, const Entry *e)
 {
-    if (e->op >= SET_NEXT && e->op <= SET_CANCEL) {
-        put(t, "\"by\":");
-        put_party(t, e->by);
-        put(t, ",");
-    }
-    if (e->op == SET_CANCEL) {
-        put(t, "\"cancel\":");
-        put_cancel(t, e->routine);
-        put(t, ",");
-    }
-    if (e->op == ATTACH || e->op == REMOVE)
-        put(t, "\"device\":%d,", e->device);
-    put(t, "\"do\":\"%s\"", op_names[e->op]);
-    if (e->op == CREATE)
-        put(t, ",\"driver\":%d,\"lock\":%d", e->device, (int)e->answer);
-    if (e->op == REMOVE)
-        put(t, ",\"drained\":%s,\"lock\":%d", yes(e->drained), e->device);
-    if (e->op == COMPLETE)
-        put(t, ",\"information\":%lu", (unsigned long)e->information);
-    if (e->op == DETACH)
-        put(t, ",\"lower\":%d", e->device);
-    if (e->op == ALLOCATE)
-        put(t, ",\"size\":%u", e->status);
-    else if (e->op > ALLOCATE) {
-        put(t, ",\"irp\":[");
-        put_irp(t, e->slot, e->use);
-        put(t, "]");
-    }
-    if (e->op == SET_NEXT)
-        put(t, ",\"major\":%d,\"word\":%lu", e->major, (unsigned long)e->word);
-    if (e->op == SET_ROUTINE) {
-        put(t, ",\"set\":");
-        put_setting(t, e->set);
-    }
-    if (e->op == REUSE || e->op == COMPLETE)
-        put(t, ",\"status\":%u", e->status);
-    if (e->op == CALL)
-        put(t, ",\"target\":%d", e->other);
-    if (e->op == ATTACH)
-        put(t, ",\"to\":%d", e->other);
+    const IrpxLineCall made = {
+        .op = (IrpxOp)e->op, .by = e->by < 0 ? IRPX_ORIGINATOR : e->by, .cancel = cancel_of(e->op == SET_CANCEL ? e->routine : NULL),
+        .device = e->op == CREATE ? (int)e->answer : e->device,
+        .other = e->op == CREATE ? e->device : e->op == ALLOCATE ? (int)e->status : e->other, .drained = e->drained,
+        .major = e->major, .slot = e->slot, .use = e->use, .word = e->word, .information = e->information,
+        .status = e->status, .set = setting_of(e->op == SET_ROUTINE ? e->set : NULL) };
+    line_call(&t->lines, &made);
 }
 
-static void put_seen(Text *t, const Entry *e)
+static IrpxLineReply reply_of(const Entry *e)
 {
-    put(t, "{\"seen\":[");
-    if (e->seen.owner == ENDED)
-        put(t, "\"ended\"");
-    else
-        put_party(t, e->seen.owner);
-    put(t, ",%d,%u,%lu,%s,", e->seen.current, e->seen.status, (unsigned long)e->seen.information, yes(e->seen.cancel));
-    put_cancel(t, e->seen.routine);
-    put(t, ",%s,%s]}", yes(e->seen.returned), yes(e->seen.marked));
-}
-
-static void put_reply(Text *t, const Entry *e)
-{
-    switch (e->reply) {
-    case DEVICE: put(t, "{\"device\":%lu}", (unsigned long)e->answer); break;
-    case IRP_REF:
-        put(t, "{\"irp\":[");
-        put_irp(t, e->slot, e->op == REUSE ? e->word : e->use);
-        put(t, "]}");
-        break;
-    case STATUS: put(t, "{\"status\":%lu}", (unsigned long)e->answer); break;
-    case PREVIOUS:
-        put(t, "{\"previous\":");
-        put_cancel(t, e->seen.routine);
-        put(t, "}");
-        break;
-    case CANCELLED: put(t, "{\"cancelled\":%s}", yes(e->answer)); break;
-    case REFUSED: put(t, "{\"refused\":\"%s\"}", e->refused); break;
-    case SEEN: put_seen(t, e); break;
-    default: put(t, "\"done\"");
-    }
+    const bool names = e->reply == PREVIOUS || e->reply == SEEN;
+    return (IrpxLineReply){
+        .kind = (IrpxReply)e->reply, .slot = e->slot, .cancel = names ? cancel_of(e->seen.routine) : IRPX_NONE,
+        .answer = e->reply != IRP_REF ? e->answer : e->op == REUSE ? e->word : e->use, .refused = e->refused,
+        .owner = e->seen.owner, .current = e->seen.current, .is_cancelled = e->seen.cancel, .returned = e->seen.returned,
+        .marked = e->seen.marked, .status = e->seen.status, .information = e->seen.information };
 }
 
 static void put_entry(Text *t, const Entry *e)
 {
-    put(t, "{\"asked\":[");
+    t->lines.text(&t->lines, "{'asked':[");
     for (int i = 0; i < e->n; i++) {
         if (i)
-            put(t, ",");
+            t->lines.text(&t->lines, ",");
         put_asked(t, e, &e->asked[i]);
     }
-    put(t, "],\"call\":{");
     put_call(t, e);
-    put(t, "},\"n\":%zu,\"reply\":", e->number);
-    put_reply(t, e);
-    put(t, ",\"seat\":");
-    put_seat(t, e->seat);
-    put(t, "}\n");
+    const IrpxLineReply reply = reply_of(e);
+    line_end(&t->lines, e->number, &reply, e->seat);
+}
+
+static void put_word(Text *t, const Word *w)
+{
+    IrpxLines *l = &t->lines;
+    l->text(l, "{'do':'");
+    l->word(l, w->act);
+    line_number(l, "','lock':", (uint64_t)w->lock);
+    l->text(l, ",'reply':");
+    l->word(l, w->reply);
+    l->text(l, ",'seat':");
+    l->seat(l, w->seat);
+    l->text(l, ",'step':");
+    put_step(t, w->step);
+    if (strcmp(w->act, "drained")) {
+        l->text(l, ",'tag':");
+        put_tag(t, w->tag);
+    }
+    if (w->to >= 0) {
+        l->text(l, ",'to':");
+        l->seat(l, w->to);
+    }
+    l->text(l, "}\n");
 }
 
 /* Behind the entries, by seat. A hand names who gives and, as `to`, who takes. */
 static void put_words(Text *t)
 {
     for (int s = 0; s < n_seats; s++)
-        for (size_t i = 0; i < n_words; i++) {
-            const Word *w = &words[i];
-            if (w->seat != s)
-                continue;
-            put(t, "{\"do\":\"%s\",\"lock\":%d,\"reply\":%s,\"seat\":", w->act, w->lock, w->reply);
-            put_seat(t, w->seat);
-            put(t, ",\"step\":");
-            put_step(t, w->step);
-            if (strcmp(w->act, "drained")) {
-                put(t, ",\"tag\":");
-                put_tag(t, w->tag);
-            }
-            if (w->to >= 0) {
-                put(t, ",\"to\":");
-                put_seat(t, w->to);
-            }
-            put(t, "}\n");
-        }
+        for (size_t i = 0; i < n_words; i++)
+            if (words[i].seat == s)
+                put_word(t, &words[i]);
 }
 
-static void put_driver(Text *t, const DRIVER_OBJECT *d)
+static int dispatch_for(int driver, int major)
 {
-    bool first = true;
-    put(t, "[");
-    for (int m = 0; m <= IRP_MJ_MAXIMUM_FUNCTION; m++)
-        if (d->MajorFunction[m]) {
-            put(t, "%s[%d,%d]", first ? "" : ",", m, dispatch_of((void *)d->MajorFunction[m]));
-            first = false;
-        }
-    put(t, "]");
+    PDRIVER_DISPATCH fn = drivers[driver]->MajorFunction[major];
+    return fn ? dispatch_of((void *)fn) : IRPX_NONE;
 }
 
 /* Once each id has its number. */
 static void put_header(Text *t)
 {
-    const int *r = ids.n_routines;
-    put(t, "{\"cancels\":[");
-    for (int i = 0; i < ids.n_cancels; i++)
-        put(t, "%s\"%s\"", i ? "," : "", finishes[i] == leaves[i] ? "either" : finishes[i] ? "must_finish" : "must_leave");
-    put(t, "],\"completions\":[%d,%d,%d,%d,%d],\"dispatches\":[", r[0], r[1], r[2], r[3], r[4]);
-    for (int i = 0; i < ids.n_dispatches; i++)
-        put(t, "%s[%d,%d,%d,%d,%d,%d]", i ? "," : "", r[0], r[1], r[2], r[3], r[4], ids.n_cancels);
-    put(t, "],\"drivers\":[");
-    for (int d = 0; d < n_drivers; d++) {
-        if (d)
-            put(t, ",");
-        put_driver(t, drivers[d]);
-    }
-    put(t, "],\"form\":2,\"locks\":%d,\"seats\":%d,\"slots\":0}\n", n_devices ? n_devices : 1, n_seats ? n_seats : 1);
+    const IrpxLineHeader h = {
+        .n_cancels = ids.n_cancels, .n_dispatches = ids.n_dispatches, .n_drivers = n_drivers,
+        .n_majors = IRP_MJ_MAXIMUM_FUNCTION + 1, .n_devices = n_devices, .n_seats = n_seats, .n_routines = ids.n_routines,
+        .finishes = finishes, .leaves = leaves, .dispatch = dispatch_for };
+    line_header(&t->lines, &h);
 }
 
 /* The history up to the first send that hasn't returned: a reply is never made up. Returns how many entries. */
@@ -304,14 +186,14 @@ static void learn_answers(void)
         for (int k = 0; k < history[i]->n; k++) {
             const Asked *a = &history[i]->asked[k];
             if (a->kind == CANCELLING)
-                (a->plan == FINISH ? finishes : leaves)[cancel_of(a->cancel)] = true;
+                (a->plan == FINISH ? finishes : leaves)[cancel_of(a->cancel)] = 1;
         }
 }
 
 /* Gives each id its number, in the order of the history. Returns the transcript's hash, and how many entries it has. */
 uint64_t hash_transcript(size_t *n)
 {
-    Text t = { 0 };
+    Text t;
     begin_hash(&t);
     learn_answers();
     *n = put_history(&t);
@@ -322,7 +204,8 @@ uint64_t hash_transcript(size_t *n)
 /* Once it has its hash. */
 void write_transcript(FILE *out)
 {
-    Text t = { .out = out };
+    Text t;
+    begin_file(&t, out);
     put_header(&t);
     put_history(&t);
 }

@@ -1,12 +1,11 @@
 /*
- * transcript_output.c: a transcript is put into a file; or into a hash that doesn't depend on which seats, slots and use numbers it
- * happened to get, and for which no text is made.
+ * transcript_output.c: a transcript is put into a file; or into a hash that doesn't depend on which seats, slots and use
+ * numbers it happened to get, and for which no text is made.
  *
  * In the hash seats, packets and tags count as what they are in the order in which they come first. Steps don't count. A
- * format counts by where it stands in the program, and what goes into it by its value.
+ * text of the lines counts by where it stands in the program, another word by its letters.
  */
 #include "record/transcript.h"
-#include <stdarg.h>
 
 enum { MOST = 1 << 12 };
 typedef enum { SEATS, PACKETS, TAGS, NAMED } Named;
@@ -36,49 +35,42 @@ static void add_name(Text *t, Named kind, uint64_t name)
     add(t, (uint64_t)i);
 }
 
+static void hash_text(IrpxLines *to, const char *text) { add((Text *)to, (uintptr_t)text); }
+static void hash_word(IrpxLines *to, const char *word) { add_string((Text *)to, word); }
+static void hash_number(IrpxLines *to, uint64_t value) { add((Text *)to, value); }
+static void hash_seat(IrpxLines *to, int seat) { add_name((Text *)to, SEATS, (uint64_t)seat); }
+
+static void hash_irp(IrpxLines *to, unsigned slot, uint64_t use)
+{
+    add_name((Text *)to, PACKETS, (uint64_t)slot << 40 | use);
+}
+
 void begin_hash(Text *t)
 {
-    *t = (Text){ .hash = 0xcbf29ce484222325u };
+    *t = (Text){ .lines = { hash_text, hash_word, hash_number, hash_seat, hash_irp }, .hash = 0xcbf29ce484222325u };
     memset(n_named, 0, sizeof n_named);
 }
 
-static void add_values(Text *t, const char *format, va_list values)
+static void write_text(IrpxLines *to, const char *text)
 {
-    add(t, (uintptr_t)format);
-    for (const char *at = strchr(format, '%'); at; at = strchr(at + 1, '%'))
-        switch (at[1]) {
-        case 's': add_string(t, va_arg(values, const char *)); break;
-        case 'd': add(t, (uint64_t)va_arg(values, int)); break;
-        case 'u': add(t, va_arg(values, unsigned)); break;
-        default: add(t, va_arg(values, unsigned long)); /* %lu and %zu */
-        }
+    for (; *text; text++)
+        putc(*text == '\'' ? '"' : *text, ((Text *)to)->out);
 }
 
-void put(Text *t, const char *format, ...)
+static void write_word(IrpxLines *to, const char *word) { fputs(word, ((Text *)to)->out); }
+
+static void write_number(IrpxLines *to, uint64_t value) { fprintf(((Text *)to)->out, "%lu", (unsigned long)value); }
+
+static void write_seat(IrpxLines *to, int seat) { fprintf(((Text *)to)->out, "%d", seat); }
+
+static void write_irp(IrpxLines *to, unsigned slot, uint64_t use)
 {
-    va_list values;
-    va_start(values, format);
-    if (t->out)
-        vfprintf(t->out, format, values);
-    else
-        add_values(t, format, values);
-    va_end(values);
+    fprintf(((Text *)to)->out, "%u,%lu", slot, (unsigned long)use);
 }
 
-void put_seat(Text *t, int seat)
+void begin_file(Text *t, FILE *out)
 {
-    if (t->out)
-        fprintf(t->out, "%d", seat);
-    else
-        add_name(t, SEATS, (uint64_t)seat);
-}
-
-void put_irp(Text *t, unsigned slot, uint64_t use)
-{
-    if (t->out)
-        fprintf(t->out, "%u,%lu", slot, (unsigned long)use);
-    else
-        add_name(t, PACKETS, (uint64_t)slot << 40 | use);
+    *t = (Text){ .lines = { write_text, write_word, write_number, write_seat, write_irp }, .out = out };
 }
 
 void put_tag(Text *t, uint64_t tag)
