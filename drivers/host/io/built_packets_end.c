@@ -1,6 +1,6 @@
 /*
- * built_packets_end.c: the end of packets that the I/O manager builds: what whoever had one built gets, and a completion once more of
- * one that its builder's own routine kept.
+ * built_packets_end.c: the end of packets that the I/O manager builds: what whoever had one built gets, and a completion
+ * once more of one that its builder's own routine kept.
  *
  * A packet of IoBuildDeviceIoControlRequest or IoBuildSynchronousFsdRequest is on the list of the thread that builds it.
  * Where it fails at once, that is with an error and before a dispatch has returned STATUS_PENDING, IoCallDriver has returned

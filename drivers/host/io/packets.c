@@ -143,7 +143,8 @@ void begin_use(Packet *p, NTSTATUS status)
     p->status = (ULONG)status;
     p->information = 0;
     packets_lost -= p->lost;
-    p->cancel = p->returned = p->lost = p->buffer.writes_back = p->built.status_gone = p->built.event_gone = p->built.fails_at_once = false;
+    p->cancel = p->returned = p->lost = p->buffer.writes_back = false;
+    p->built.status_gone = p->built.event_gone = p->built.fails_at_once = false;
     prepare_nothing(p);
     p->kept_by = NULL;
     p->file = NULL;

@@ -1,4 +1,5 @@
-/* function_names.c: names for addresses of functions, out of the program's own symbol table, and for major codes. */
+/* function_names.c: names for addresses of functions, out of the program's own symbol table, and for major codes; and which
+   files are the host's. */
 #include "record/record.h"
 #include <elf.h>
 #include <link.h>

@@ -1,5 +1,5 @@
-/* freed_with_objects.c: memory that goes, a pool block or a deleted device's extension, with a packet, timer, deferred call, work item
-   or lock in it. */
+/* freed_with_objects.c: memory that goes, a pool block or a deleted device's extension, with a packet, timer, deferred
+   call, work item or lock in it. */
 #include "rules/own.h"
 #include "io/io.h"
 #include "ke/ke.h"

@@ -1,5 +1,5 @@
-/* unset_status.c: a status that nobody has set when a request is completed. Until somebody does, a pattern stands there in place of the
-   I/O manager's zero. A request of Plug and Play, of power or of WMI comes with a status of its own. */
+/* unset_status.c: a status that nobody has set when a request is completed. Until somebody does, a pattern stands there in
+   place of the I/O manager's zero. A request of Plug and Play, of power or of WMI comes with a status of its own. */
 #include "rules/rules.h"
 #include "io/io.h"
 #include "record/record.h"

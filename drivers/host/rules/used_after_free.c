@@ -1,4 +1,5 @@
-/* used_after_free.c: objects of the kernel that are used in memory which has gone: a freed pool block, a deleted device's extension. */
+/* used_after_free.c: objects of the kernel that are used in memory which has gone: a freed pool block, a deleted device's
+   extension. */
 #include "rules/rules.h"
 #include "mm/mm.h"
 #include "record/record.h"

@@ -1,5 +1,5 @@
-/* functions_that_ran.c: which functions of drivers ran, where they are compiled with -finstrument-functions: for the sum of many runs, and where a driver
-   has pageable code. */
+/* functions_that_ran.c: which functions of drivers ran, where they are compiled with -finstrument-functions: for the sum of
+   many runs, and where a driver has pageable code. */
 #include "test/own.h"
 #include "rules/rules.h"
 
