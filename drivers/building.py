@@ -9,10 +9,10 @@ import os
 import re
 
 import compiling
+import host_files
 import pageable
 from compiling import Stop, call
 
-HERE = os.path.dirname(os.path.abspath(__file__))
 DRIVER_FLAGS = ["-std=gnu11", "-fcommon", "-Wall", "-Wextra", "-Wno-multichar", "-Wno-unknown-pragmas",
                 "-Wno-unused-parameter", "-Werror=implicit-function-declaration"]
 
@@ -188,9 +188,9 @@ def build(compiler, flags, named, library, folder, link_flags=(), libraries=(), 
     table = folder + "/drivers.c"
     write_table(table, drivers, len(drivers) == 1 and any("DriverEntry" in wanted for _, wanted in apart), paged)
     added = {"main": [], "tests": [NAMED_TESTS], "": own_test}
-    for source in (table, *(f"{HERE}/host/{it}" for it in added[kind])):
+    for source in (table, *map(host_files.path, added[kind])):
         made = f"{folder}/{len(objects)}_{stem(source)}.o"
-        compiled(source, made)
+        compiled(source, made, f"-I{host_files.HOST}")
         objects.append(made)
     program = folder + "/program"
     call([compiler, "-pthread", *link_flags, "-o", program, *objects, library], "it doesn't link")

@@ -11,6 +11,7 @@ import sys
 from xml.etree import ElementTree
 
 import as_windows
+import host_files
 import mistakes
 import planted
 import reaching
@@ -75,6 +76,8 @@ def tests(bench, names_of, complaint):
     program = bench.build(folder, [HERE + "/rules"])
     places, names = lines_told(), names_of(program)
     for case in names:
+        if not bench.wants(f"rule {case}, broken", f"rule {case}, kept"):
+            continue
         settings = SETTINGS.get("_" + case.partition("_")[2], {})
         wrong = BySchedule(bench, case) if case in BY_SCHEDULE else \
             bench.run(folder, program, args=f"{case} wrong", patience=1, settings=settings)
@@ -470,8 +473,7 @@ def mistakes_told(bench, mistake):
 
 def missing_rules(names):
     """Returns the rules of the host that no case breaks, or that VERIFIER.md doesn't have, or None."""
-    with open(HERE + "/host/checks.c", encoding="utf-8") as it:
-        rules = re.findall(r'^    \{ "(\w+)", ', it.read(), re.M)
+    rules = re.findall(r'^    \{ "(\w+)", ', host_files.text("checks.c"), re.M)
     with open(HERE + "/VERIFIER.md", encoding="utf-8") as it:
         page = set(re.findall(r"^\| (\w+) \|", it.read(), re.M))
     with open(HERE + "/races/untested/pends.c", encoding="utf-8") as it: # see reaching.py

@@ -1,5 +1,5 @@
 """What runs came to, and what they didn't: situations of the host's own test, functions, majors and minors, control codes,
-routines' errors, cancel routines. The host leaves it as lines (host/covered.c); lines of many runs are joined here."""
+routines' errors, cancel routines. The host leaves it as lines (host/test/covered.c); lines of many runs are joined here."""
 
 import functools
 import os

@@ -1,4 +1,4 @@
-"""The file in which an exploration leaves distinct transcripts (host/ending.c): of each a line with its schedule, its own
+"""The file in which an exploration leaves distinct transcripts (host/explore/outcomes.c): of each a line with its schedule, its own
 lines, and an empty one. One that has no empty line behind it wasn't written to its end."""
 
 

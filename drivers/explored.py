@@ -11,6 +11,7 @@ import subprocess
 
 import distinct
 import going_back
+import host_files
 import limits
 import orders
 import own_locks
@@ -36,22 +37,22 @@ WRONG = [
      "ready |= (uint32_t)(can_go_on(&threads[i]) && !(ready && threads[i].waits)) << i;", "classes", "watchdog"),
     ("a wait is never told that it is over", "schedule.c", "(end && end <= clock_now) || is_over(t));",
      "(end && end <= clock_now) || (is_over(t) && end));", "right", "lost_wakeup"),
-    ("a state counts as reached by any choice", "exploring.c", "state + (uint64_t)choice * 0x9E3779B97F4A7C15u",
+    ("a state counts as reached by any choice", "choices.c", "state + (uint64_t)choice * 0x9E3779B97F4A7C15u",
      "state + (uint64_t)(choice / MAX_THREADS)", "classes", "late"),
     ("what an object had been through is forgotten", "footprint.c",
      "*mine = mix(mix(*mine, normal(object) * 2 + writes), o->written);",
      "*mine = mix(*mine, normal(object) * 2 + writes);", "classes", "watchdog"),
-    ("a state counts as reached that cost more", "tables.c", "*is_new = !was || (was & ~mask) < (entry & ~mask);",
+    ("a state counts as reached that cost more", "shared_sets.c", "*is_new = !was || (was & ~mask) < (entry & ~mask);",
      "*is_new = !was;", "classes", "watchdog"),
     ("that time passed is no event of the clock", "schedule.c", "time_passed_for(t, &clock_now);", "(void)time_passed_for;",
      "classes", "watchdog"),
-    ("an early timer is never tried", "exploring.c", "if (t != c->usual && can_choose(c, t) &&",
+    ("an early timer is never tried", "choices.c", "if (t != c->usual && can_choose(c, t) &&",
      "if (t != c->usual && !is_early(c, t) && can_choose(c, t) &&", "race", "timer_cancel"),
-    ("the first two threads are never tried", "exploring.c", "for (int t = 0; t < MAX_THREADS; t++)\n        if (t != c->usual && can_choose(c, t) &&",
+    ("the first two threads are never tried", "choices.c", "for (int t = 0; t < MAX_THREADS; t++)\n        if (t != c->usual && can_choose(c, t) &&",
      "for (int t = 2; t < MAX_THREADS; t++)\n        if (t != c->usual && can_choose(c, t) &&", "race", "routine_late"),
     ("a racy access isn't a point", "hooks.c", "if (shared->is_point[", "if (!shared && shared->is_point[", "race",
      "plain_count"),
-    ("a device's names are touched by nobody", "properties.c",
+    ("a device's names are touched by nobody", "links_and_interfaces.c",
      """    hold_host("IoGetDeviceInterfaces", &names, READS);""", "    hold_host(\"IoGetDeviceInterfaces\", &n_names, READS);",
      "race", "interface_seen"),
     ("a device's properties are touched by nobody", "device_properties.c",
@@ -63,7 +64,7 @@ WRONG = [
     touch_memory(Mdl, sizeof *Mdl, WRITES);""", """    enter_host(&c, "MmProbeAndLockPages", at);""", "race", "mdl_seen"),
     ("what a routine decides as it returns is touched by nobody", "threads.c",
      "        touch(f->p->irp, f->settled ? READS : WRITES);", "        (void)touch;", "classes", "watchdog"),
-    ("deferred calls run one at a time", "work.c", "MAX_PROCESSORS = 2 };", "MAX_PROCESSORS = 1 };", "race", "two_calls"),
+    ("deferred calls run one at a time", "timers_and_dpcs.c", "MAX_PROCESSORS = 2 };", "MAX_PROCESSORS = 1 };", "race", "two_calls"),
     ("one processor lets a thread go on below DISPATCH_LEVEL", "schedule.c", "return high ? ready & high : ready;",
      "return ready;", "race", "waits_high"),
     ("a device that waits for its routine keeps its extension meanwhile", "devices.c",
@@ -258,7 +259,7 @@ def wrong_library(run, bench, name, file, old, new):
     for it in os.listdir(os.path.dirname(bench.library)):
         if it.endswith(".o"):
             shutil.copy2(f"{os.path.dirname(bench.library)}/{it}", folder + "/host/out")
-    path = f"{folder}/host/{file}"
+    path = host_files.path(file, folder + "/host")
     with open(path, encoding="utf-8") as it:
         text = it.read()
     if text.count(old) != 1:

@@ -17,7 +17,7 @@ WRONG = [
      "PROT_READ | PROT_WRITE", "ending", "touch"),
     ("what a closed packet's page has in it counts as known", "packet_pages.c", "all->stamps[i] = ++all->last;",
      "all->stamps[i] = 1;", "classes", "keyboard"),
-    ("a lost process isn't seen", "explore.c", "return shared->n_begun != shared->n_ended &&",
+    ("a lost process isn't seen", "explorer.c", "return shared->n_begun != shared->n_ended &&",
      "return shared->n_begun < shared->n_ended &&", "ending", "deep"),
 ]
 

@@ -5,7 +5,8 @@ import re
 import subprocess
 import tempfile
 
-HERE = os.path.dirname(os.path.abspath(__file__))
+import host_files
+
 # Where a name isn't there: the group of the kit that it is of, by the first pattern that fits.
 GROUPS = [
     (r"^Flt|^FLT|^PFLT", "filter manager"),
@@ -97,8 +98,7 @@ def undefined_in(made, there):
 def tell(compiler, flags, sources):
     """Prints what each source wants and the host hasn't. Returns 1 where that is anything, else 0."""
     ended, words = 0, [compiler, *flags, *(["-ferror-limit=0"] if "clang" in compiler else [])]
-    there = set().union(*(functions_in(f"{HERE}/host/{it}") for it in os.listdir(HERE + "/host") if it.endswith(".c")),
-                        *map(functions_in, sources))
+    there = set().union(*map(functions_in, (*host_files.sources().values(), *sources)))
     for source in sources:
         with tempfile.TemporaryDirectory() as room:
             said = said_of(words, source, room)

@@ -1,6 +1,6 @@
 """What `run --every-order` does: it has every order of the threads' steps made, and tells what was covered and what failed.
 
-The program explores itself (host/explore.c), and leaves a report of lines with a key and values. Here the failing schedule
+The program explores itself (host/explore/explorer.c), and leaves a report of lines with a key and values. Here the failing schedule
 is made shorter and run again, distinct transcripts are judged, and all is told."""
 
 import concurrent.futures
@@ -29,7 +29,7 @@ FLAGS = ["-fsanitize=thread", *(f"-D{it}=wdm_{it}" for it in RENAMED)]
 MANY = 200  # decisions of a run, from which on a test is told to be made smaller
 
 
-# The pieces of the host's own test (host/overlaps.c).
+# The pieces of the host's own test (host/test/overlaps.c).
 SCENARIOS = {"overlap": "a read and a write at once", "cancel": "a read that is cancelled meanwhile",
              "power": "power goes and comes while a read is under way",
              "remove": "the device is removed while it holds reads",

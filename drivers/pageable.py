@@ -1,5 +1,5 @@
 """Tells which functions a driver's sources put into pageable sections: by `#pragma alloc_text`, or between two of
-`#pragma code_seg`. The host has their names by a table of the program (host/pageable.c)."""
+`#pragma code_seg`. The host has their names by a table of the program (host/rules/pageable.c)."""
 
 import os
 import re

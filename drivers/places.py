@@ -5,7 +5,9 @@ import re
 import shutil
 import subprocess
 
-HOST = os.path.dirname(os.path.abspath(__file__)) + "/host/"
+import host_files
+
+
 MOST_CALLS = 3  # so many of a chain are told
 ADDRESS = r"\+0x[0-9a-f]+ in [^\s,;:()]+"
 
@@ -35,7 +37,7 @@ def with_lines(said, program):
         found, theirs = [], []
         for address in re.findall(r"\+0x([0-9a-f]+)", it["chain"]):
             for function, line in known.get(int(address, 16), []):
-                (found if line.startswith(HOST) else theirs).append((os.path.basename(line), function))
+                (found if line.startswith(host_files.HOST + "/") else theirs).append((os.path.basename(line), function))
         functions = [function for _, function in theirs]
         if it["own"] in functions:
             theirs = theirs[functions.index(it["own"]) + 1:]

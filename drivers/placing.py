@@ -6,6 +6,7 @@ import json
 import os
 import re
 
+import host_files
 import places
 
 HERE = os.path.dirname(os.path.abspath(__file__))
@@ -43,7 +44,7 @@ def wrong_place(sources, place):
     """Returns what is wrong with a place, or None. A file that isn't the sources' is the host's own."""
     lines = sources.get(place["file"])
     if lines is None:
-        return NO_COMPLAINT if os.path.exists(f"{HERE}/host/{place['file']}") else f"there is no {place['file']}"
+        return NO_COMPLAINT if place["file"] in host_files.sources() else f"there is no {place['file']}"
     text = "\n".join(lines[max(place["line"] - MOST_LINES, 0):place["line"]])
     if not re.search(rf"\b({place['call']}|{OTHERS.get(place['call'], WRAPPED)}|{WRAPPED})\(", text):
         return f"{place['file']}:{place['line']} has no {place['call']}: {text}"
@@ -64,7 +65,7 @@ def wrong_places(sources, path, transcript):
         return "it has other entries than the transcript"
     named = {it for names in (head["dispatches"], head["cancels"], *head["completions"]) for it in names}
     known = " ".join(" ".join(it) for it in sources.values())
-    known += " ".join(" ".join(it) for it in sources_in(HERE + "/host").values())
+    known += " ".join(map(host_files.text, host_files.sources()))
     missing = [it for it in named if not re.search(rf"\b{it}\b", known)]
     if missing:
         return f"no function is {missing[0]}"

@@ -340,10 +340,10 @@ ORDER = [("recording.c", "    Entry *e = calloc(1, sizeof *e);\n", "    Entry *e
           "    e->number = n_history;\n    ((size_t *)(e + 1))[1] = stamp++;\n"),
          ("sending.c", "    e->reply = STATUS;\n",
           "    extern size_t stamp;\n    ((size_t *)(e + 1))[1] = stamp++;\n    e->reply = STATUS;\n"),
-         ("writing.c", "    begin_hash(&t);\n",
+         ("transcript.c", "    begin_hash(&t);\n",
           "    begin_hash(&t);\n    qsort(history, n_history, sizeof *history, by_order);\n"
           "    for (size_t i = 0; i < n_history; i++)\n        history[i]->number = i;\n"),
-         ("writing.c", "/* The history up to", "static int by_order(const void *a, const void *b)\n{\n"
+         ("transcript.c", "/* The history up to", "static int by_order(const void *a, const void *b)\n{\n"
           "    const Entry *x = *(Entry *const *)a, *y = *(Entry *const *)b;\n"
           "    const size_t m = ((const size_t *)(x + 1))[KEY], n = ((const size_t *)(y + 1))[KEY];\n"
           "    return m < n ? -1 : m > n;\n}\n\n/* The history up to")]
@@ -367,7 +367,7 @@ WRONG_HOSTS = [
        "p->irp->PendingReturned = p->returned = false;")]),
     ("a kept packet is the originator's", [("settling.c", "    p->owner = f->device;\n    p->asking",
                                             "    p->owner = ORIGINATOR;\n    p->asking")]),
-    ("a skip is written as a forward", [("writing.c", '"[\\"skip\\"]"', '"[\\"forward\\",null]"')]),
+    ("a skip is written as a forward", [("transcript.c", ".plan = (IrpxPlan)a->plan,", ".plan = a->plan == SKIPS ? IRPX_FORWARD : (IrpxPlan)a->plan,")]),
     ("the pending bit isn't passed up",
      [("completion.c", "else if (l.pending && j < p->size)", "else if (0 && j < p->size)")]),
     ("routines on error are always asked",

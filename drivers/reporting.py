@@ -7,6 +7,7 @@ import re
 import urllib.parse
 
 import folders
+import host_files
 
 
 class Case:
@@ -115,7 +116,7 @@ class Sources:
 
     def location(self, it):
         """Returns where a place is that was told: in a driver, in a test or in the host."""
-        path = self.known.get(it["file"], f"{folders.HERE}/host/{it['file']}")
+        path = self.known.get(it["file"]) or host_files.path(it["file"])
         made = {"physicalLocation": self.physical(path, max(int(it["line"]), 1))}
         return {**made, "logicalLocations": [{"name": it["function"], "kind": "function"}]} if it["function"] else made
 

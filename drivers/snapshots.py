@@ -1,4 +1,4 @@
-"""Whether an exploration may go back to snapshots of memory (host/snapshots.h), or needs a process for each choice.
+"""Whether an exploration may go back to snapshots of memory (host/explore/snapshots.h), or needs a process for each choice.
 
 What the system keeps for a process isn't put back: files, handlers of signals, timers, new mappings. And a call of the
 system fails that writes to a page which a snapshot has closed. So a program goes back only if its drivers and its test call

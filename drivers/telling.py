@@ -11,6 +11,7 @@ import subprocess
 import as_windows
 import checked
 import explored
+import host_files
 import newer
 import planted
 import reaching
@@ -32,10 +33,9 @@ def text_of(path):
 def rules():
     """Returns the names of all rules: those that the host's source tells, and the refusals."""
     found = set(OTHERS)
-    for name in sorted(os.listdir(HERE + "/host")):
-        if name.endswith(".c"):
-            found |= set(re.findall(r'\b(?:fault|fault_of|fault_at|broken)\(\s*"(\w+)"', text_of(f"host/{name}")))
-    return found | set(re.findall(r'"([A-Z]\w+)"', text_of("host/rules.c")))
+    for name in host_files.sources():
+        found |= set(re.findall(r'\b(?:fault|fault_of|fault_at|broken)\(\s*"(\w+)"', host_files.text(name)))
+    return found | set(re.findall(r'"([A-Z]\w+)"', host_files.text("refusals.c")))
 
 
 def rule_of(text):
@@ -101,7 +101,7 @@ def misused(bench):
     folder = bench.folder("misuse")
     program = bench.build(folder, [HERE + "/misuse"])
     misuses = names_of(program)
-    for case in misuses:
+    for case in filter(lambda it: bench.wants(f"misuse {it}"), misuses):
         run = bench.run(folder, program, args=case, patience=1)
         yield f"misuse {case}", wrong_misuse(case, run)
     made = bench.ran("--shake", "1", "--args", "Stuck", HERE + "/misuse")
@@ -121,7 +121,7 @@ def silenced_library(bench, RUN, apply):
     check = '    const char *silenced = getenv("WDM_SILENCED");\n    if (silenced && !strcmp(silenced, rule))\n        return;\n'
     begins = ["void fault(const char *rule, const Packet *p, const char *how, ...)\n{\n",
               "void fault_of(const char *rule, const Packet *p, const Frame *f, const char *how, ...)\n{\n"]
-    apply(folder + "/host/telling.c", [(it, it + check) for it in begins])
+    apply(host_files.path("faults.c", folder + "/host"), [(it, it + check) for it in begins])
     return RUN.build_host(bench.cc, None, folder + "/host")
 
 

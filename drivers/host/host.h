@@ -4,11 +4,25 @@
  * The host runs drivers, keeps a shadow of what docs/RULES.md knows of their packets and devices, and records entries.
  * It isn't trusted: `irpx check` judges what it recorded.
  *
+ * FOLDERS. A file stands in the folder of what it is about. No two files have one name, since places are told by names.
+ * FOLDER/FOLDER.h is what other folders may call; a folder's other headers are its own.
+ *   io/       packets and their locations, sends, completions, cancels, remove locks; devices, files, interrupts
+ *   ke/       threads and the host's lock; waits, spin locks and other locks; timers, deferred calls, work items, callbacks
+ *   mm/       pool, pages, MDLs, sections, DMA; memory that is refused; touches of pages that are closed
+ *   pnp/      the managers of Plug and Play and of power, the power framework; interfaces, links, properties of devices
+ *   ob/       objects, handles, names, security, registry
+ *   rtl/      text, printing, tracing, GUIDs, routines by name
+ *   win32/    the calls of Win32 that tests of Wine's make
+ *   record/   entries and the transcript, the files beside it; faults and last words, and the names in them
+ *   rules/    what docs/RULES.md refuses, and what Driver Verifier checks
+ *   explore/  schedules, the explorer, snapshots, races
+ *   test/     what stands for programs and other drivers: requests, situations, bottoms, cancels, the end of a test
+ *
  * LOCKING ORDER. From the outside in; nothing takes a lock that stands above one that it holds.
  *   1. the cancel spin lock (cancelling.c), which a driver may hold across calls of the host;
  *   2. G, the host's lock: enter_host takes it, leave_host gives it back. All of the shadow and the history is under
  *      it. It is never held while a driver's code runs: let_driver_run gives it back, driver_came_back takes it again;
- *   3. W (waits.c), under which events, timers, semaphores and mutexes change. Nothing is called under W.
+ *   3. W (dispatcher_objects.c), under which events, timers, semaphores and mutexes change. Nothing is called under W.
  * A driver's own spin locks are taken outside G. `self` is the thread's own and has no lock.
  *
  * WHEN AN ENTRY IS SETTLED. An entry gets its number when it is settled, always inside the real call:
@@ -30,7 +44,8 @@
 #include "wdm_trace.h"
 #include "wdm_guid.h"
 #include "wdm_test.h"
-#include "threads.h"
+#include "ke/threads.h"
+#include "options.h"
 #include <signal.h>
 #include <stdio.h>
 #include <time.h>
@@ -43,6 +58,7 @@ typedef enum { CREATE, ATTACH, DETACH, REMOVE, ALLOCATE, FREE, REUSE, SET_NEXT, 
 typedef enum { DISPATCH, ROUTINE, CANCELLING, WORK } Kind;
 typedef enum { UNKNOWN, FINISH, HOLD, SKIPS, FORWARD, FORWARD_PEND, CONTINUE, KEEP, LEAVE } Plan;
 typedef enum { NOTHING, FILLED, SKIPPED } Preparation;
+typedef enum { SPIN_LOCK, CANCEL_LOCK, FAST_LOCK, MUTEX_OBJECT, SHARED_SPIN, PUSH_LOCK } LockKind;
 typedef enum { NONE_YET, DONE, DEVICE, IRP_REF, STATUS, PREVIOUS, CANCELLED, SEEN, REFUSED } Reply;
 
 typedef struct Packet Packet;
@@ -162,51 +178,69 @@ struct Packet {
     unsigned slot;
     uint64_t use, information;
     ULONG status;
-    bool live, returned, cancel, touched, copied, skipped, unwinding, lost;
-    Preparation prep;
+    bool live, returned, cancel, unwinding, lost;
+    struct {
+        Preparation how;
+        bool copied, skipped, touched; /* touched: a copy, or what was set, may be filled anew by hand */
+        Setting *set;
+    } next; /* how the next lower location is prepared */
     PDRIVER_CANCEL routine, ghost; /* ghost: a routine that came after the cancel, and hasn't been taken back */
-    PDRIVER_CANCEL ran;            /* the cancel routine that was called */
+    PDRIVER_CANCEL called;         /* the cancel routine that was called */
+    PDRIVER_CANCEL own_cancel;     /* unsent.c: its originator's, while that has it */
     PFILE_OBJECT file;             /* of the location with which it was sent, or NULL */
     uint64_t held_at_cleanup;      /* the use in which a driver held it when CLEANUP of its file was sent */
     KPROCESSOR_MODE mode;          /* of who asked for it */
-    PDRIVER_CANCEL own_cancel;     /* unsent.c: its originator's, while that has it */
-    Setting *want;
-    Frame *asking; /* who is asked about it and hasn't decided */
+    Frame *asking;                 /* who is asked about it and hasn't decided */
     Entry *open;
-    Packet *rides, *rider; /* in_place.c: it stands in for another one; another one stands in for it */
-    Setting *mine; /* of a rider: the device's own routine, which runs when it is up */
-    PKEVENT up; /* set when a rider is up, where its dispatch waits for that */
-    void *kept_by;     /* the routine that kept it last */
-    PVOID buffer;      /* given by WdmBuild, freed with the packet; so are its bytes */
-    struct Block *bytes;
-    PMDL direct;          /* room for the MDL of a control of METHOD_IN_DIRECT or METHOD_OUT_DIRECT */
-    struct Block *direct_bytes; /* and what it describes, where nobody gave a buffer */
-    bool scratch;      /* its topmost location is its allocator's own (IoSetNextIrpStackLocation) */
-    ULONG room;        /* what was built has room for so many bytes there, to be copied to UserBuffer */
-    bool status_is_gone, event_is_gone; /* its IoStatusBlock or event lies where nobody may write any more */
-    bool has_pattern; /* unwritten.c: a pattern lies behind its input */
-    bool writes_back, is_built; /* is_built: by the I/O manager, which frees it at its end */
-    bool lends; /* mdl.c: its buffer and its MDL are for whoever had it built to free */
-    PMDL lent;  /* the MDL */
-    bool threaded, failed_at_once; /* built.c: it is on the list of the thread that had it built; its end sets no event */
-    const void *never_set;         /* which event that is */
-    bool trapped, touch_untold, touched_by_sender;
-    bool watched; /* watching.c: its page is closed, until somebody touches it */
-    bool shut;    /* traps.c: its page is closed for good: it has ended, or is free */
-    uint64_t watcher; /* the number of the frame */
-    const struct Call *watcher_calls;
-    int sent_by;
-    const void *touched_at;
-    int toucher, toucher_calls; /* the device that ran; the driver whose function it had called, or NOBODY */
+    void *kept_by;                 /* the routine that kept it last */
+    bool has_own_location;         /* its topmost location is its allocator's own (IoSetNextIrpStackLocation) */
+    struct {
+        Packet *of, *by; /* it stands in for another one; another one stands in for it */
+        Setting *set;    /* the device's own routine, which runs when it is up */
+        PKEVENT up;      /* set when the one that stands in is up, where its dispatch waits for that */
+    } stands_in;         /* in_place.c */
+    struct {
+        PVOID given;                /* by WdmBuild, freed with the packet; so are its bytes */
+        struct Block *bytes;
+        PMDL direct;                /* room for the MDL of a control of METHOD_IN_DIRECT or METHOD_OUT_DIRECT */
+        struct Block *direct_bytes; /* and what it describes, where nobody gave a buffer */
+        ULONG room;                 /* what was built has room for so many bytes there, to be copied to UserBuffer */
+        bool has_pattern;           /* unwritten.c: a pattern lies behind its input */
+        bool writes_back;
+        bool is_lent;               /* mdl.c: it and its MDL are for whoever had the packet built to free */
+        PMDL lent;                  /* the MDL */
+    } buffer;
+    struct {
+        bool by_manager;                 /* by the I/O manager, which frees it at its end */
+        bool status_gone, event_gone;    /* its IoStatusBlock or event lies where nobody may write any more */
+        bool is_threaded, fails_at_once; /* built_packets_end.c: it is on its thread's list; its end sets no event */
+        const void *never_set;           /* which event that is */
+    } built;
+    struct {
+        bool is_trapped, is_untold, is_senders;
+        const void *at;
+        int by, calls; /* the device that ran; the driver whose function it had called, or NOBODY */
+    } touch;           /* of its page while that is closed */
+    struct {
+        bool is_watched; /* watching.c: closed, until somebody touches it */
+        bool is_shut;    /* traps.c: closed for good: it has ended, or is free */
+        uint64_t frame;  /* the number of the frame that watches */
+        const struct Call *calls;
+        int sent_by;
+    } page;
     struct { WDM_SITE allocated, sent, completed, freed, cancel, none_taken; } sites;
     Callers completers;
     uint64_t name; /* by the thread that allocated it, and how many that had allocated before */
     UCHAR major;   /* what was sent to the first device */
-    CHAR stack_count;         /* what the packet says of itself */
-    Packet *older;            /* initialized.c: what was initialized before it there, or near */
-    const Frame *lies_with;   /* on the stack of which frame it was initialized, or NULL */
-    IO_STACK_LOCATION *above; /* the locations of the devices above, as they left them; `left` has a bit for each */
-    uint64_t left;
+    struct {
+        CHAR stack_count;         /* what the packet says of itself */
+        IO_STACK_LOCATION *above; /* the locations of the devices above, as they left them; `left` has a bit for each */
+        uint64_t left;
+    } kept;                       /* own_memory.c */
+    struct {
+        Packet *older;      /* what was initialized before it there, or near */
+        const Frame *frame; /* on the stack of which frame that was, or NULL */
+    } initialized;          /* initialized.c */
     Location at[MAX_SIZE + 2];
 };
 
@@ -272,137 +306,5 @@ extern int n_devices, n_drivers, n_packets, n_live, n_seats, n_faults, n_notes, 
 extern uint64_t next_use;
 extern unsigned long host_activity; /* grows with each call, so that a wait sees whether anything goes on */
 extern _Atomic int packets_lost; /* that a dispatch neither finished, kept nor passed down, and nobody has completed since */
-
-/* telling.c, names.c */
-const char *who(int device);
-const char *who_of(const Packet *p, int device);
-const char *who_calls(void);
-const char *what_runs(const Frame *f);
-const char *place(WDM_SITE at);
-FILE *open_high(const char *path);
-void write_error(const char *text, size_t n);
-__attribute__((format(printf, 1, 2))) void say(const char *how, ...);
-__attribute__((format(printf, 3, 4))) void fault(const char *rule, const Packet *p, const char *how, ...);
-__attribute__((format(printf, 4, 5))) void fault_of(const char *rule, const Packet *p, const Frame *f, const char *how,
-                                                    ...);
-__attribute__((format(printf, 5, 6))) void fault_at(const char *rule, const Packet *p, const char *call, WDM_SITE at,
-                                                    const char *how, ...);
-__attribute__((format(printf, 2, 3))) void note(const char *key, const char *how, ...);
-__attribute__((noreturn)) void give_up(const char *why);
-__attribute__((noreturn)) void stop_run(const char *why);
-/* limits.c: the run ends here, since the host does no more; why, or NULL. */
-__attribute__((noreturn)) void reach_limit(const char *what);
-const char *limit_reached(void);
-size_t write_out(void);
-void tell_repeats(void);
-bool is_expected_refusal(const char *name);
-size_t expected_entries(void);
-void tell_expected(FILE *out);
-const char *function_name(const void *address);
-bool is_in_program(const void *address);
-bool is_code_of_one(const void *a, const void *b);
-unsigned long place_in_program(const void *address);
-const char *major_name(int major);
-
-/* recording.c, writing.c */
-Entry *begin(Op op, Packet *p, int by);
-void seal(Entry *e, bool cancel);
-void number_sends_through(int d);
-Entry *answered(Entry *e, Reply reply, uint64_t answer);
-void refuse(Entry *e, const char *name);
-int ask(Entry *e, Packet *p, Kind kind, void *fn, int device, int location);
-uint64_t number_of(const void *raw);
-uint64_t word_of(const IO_STACK_LOCATION *l);
-void look(Packet *p);
-void record_word(const char *act, int lock, PVOID tag, const char *reply, int by, int to);
-extern const char *const op_names[];
-
-/* rules.c: the one place that knows which call is refused. A question there is one that irp_live could be asked. */
-const char *rules_refusal(const Entry *call);
-bool rules_completable(ULONG status);
-int rules_stack_size(int device);
-
-/* threads.c, waits.c, work.c, work_items.c */
-void enter_host(Call *c, const char *name, WDM_SITE at);
-void enter_quietly(Call *c, const char *name, WDM_SITE at);
-void hold_host(const char *call, const void *object, Touch how);
-void leave_host(void);
-void let_driver_run(void);
-void driver_came_back(void);
-void enter_frame(Frame *f);
-void leave_frame(void);
-void learn_file(const char *file, int driver);
-void learn_test(const char *file);
-bool has_test(const char *file);
-int calling_driver(void);
-int running_driver(void);
-void set_event(PKEVENT event);
-void hands_over(void);
-void hands_over_now(void);
-void clear_event(PKEVENT event);
-bool is_event(const void *object);
-bool wait_for_host(bool (*done)(const void *), const void *context);
-void finish_work(void);
-void run_work(Frame *f, int driver);
-void work_done(void);
-bool workers_are_idle(void), plug_and_play_is_idle(void), power_manager_is_idle(void), power_framework_is_idle(void);
-void send_at_passive_level(PDEVICE_OBJECT top, PIRP irp, WDM_SITE at);
-void after_work_items(void);
-bool has_work(int device);
-void item_is_queued(int device);
-void item_has_returned(int device);
-void may_go(int device);
-void after_work_items(void);
-void tell_work_queued(int device);
-bool is_bottom(PDEVICE_OBJECT device);
-bool timers_armed(void);
-ULONG next_new_timer(ULONG most);
-PKTIMER armed_timers(void);
-
-/* devices.c, packets.c, preparing.c */
-void delete_after(int device);
-PIO_STACK_LOCATION raw_at(Packet *p, int j);
-Packet *find(PIRP irp);
-Packet *new_packet(int size, PIRP irp);
-bool lives(const Packet *p);
-void begin_use(Packet *p, NTSTATUS status);
-void use_again(Packet *p, NTSTATUS status);
-void free_now(Packet *p);
-Frame *on_top(const Packet *p);
-int party(const Packet *p);
-int party_with_location(const Packet *p);
-Frame *dispatching(const Packet *p);
-void await(Packet *p);
-void prepare_nothing(Packet *p);
-void clear_location(Packet *p, int j);
-void put_back(Packet *p);
-void set_pending_bit(Packet *p, int j, bool real);
-void free_ended(Packet *p);
-void flush_next(Packet *p, int by);
-bool is_filled_by_hand(Packet *p);
-bool is_skipped_by_hand(const Packet *p);
-void take_hand_skip(Packet *p);
-void take_hand_mark(Packet *p);
-void tell_ghost(Packet *p);
-
-/* settling.c, sending.c, completion.c, in_place.c */
-void settle(Packet *p, bool returned);
-void take_kept_answer(Packet *p, Frame *f);
-void routine_kept(Packet *p, Frame *f);
-void pend_setter(Packet *p, int j, Location below, const char *why);
-NTSTATUS enter_device(Packet *p, int device, Entry *e);
-void finish(Packet *p, Entry *e, ULONG status, uint64_t information);
-void finish_asked(Packet *p, Frame *f, ULONG status, uint64_t information);
-void complete(Packet *p, int by, ULONG status, uint64_t information);
-NTSTATUS send_in_place(Packet *p, int by, int device);
-void returned_from(Entry *e, NTSTATUS answer);
-void rider_came_up(Packet *rider, Entry *e);
-bool dispatch_has_it_back(Packet *p, Frame *routine);
-bool will_wait(const Packet *p, const Frame *dispatch);
-NTSTATUS forward_in_place(Packet *p, int device);
-
-#include "checks.h"
-#include "placing.h"
-#include "told.h"
 
 #endif

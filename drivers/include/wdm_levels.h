@@ -1,5 +1,5 @@
 /* wdm_levels.h: calls that a driver makes at PASSIVE_LEVEL alone, and of which the host checks nothing else. Each has
-   its level checked first (host/levels.c), and one that takes memory may be refused (host/low_memory.c). `wdm.h` includes
+   its level checked first (host/rules/levels.c), and one that takes memory may be refused (host/mm/low_memory.c). `wdm.h` includes
    this last, and the host's files that define them don't. */
 #ifndef WDM_LEVELS_H
 #define WDM_LEVELS_H

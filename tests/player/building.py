@@ -11,6 +11,7 @@ TOP = os.path.dirname(os.path.dirname(HERE))
 DRIVERS = TOP + "/drivers"
 sys.path.append(DRIVERS)
 import folders  # noqa: E402 (the path is set above)
+import host_files  # noqa: E402
 PLAYER = ["routines", "within", "locks", "steps", "seats", "feed"]  # these, and create, are recorded
 RECORDER = sorted(it[:-2] for it in os.listdir(DRIVERS + "/recorder") if it.endswith(".c"))
 # The tests of the host: each has a `main`, or serves one.
@@ -41,9 +42,9 @@ def call_all(commands):
 
 def newest_header():
     """Returns when the newest header changed that an object may be made of."""
-    places = (HERE, DRIVERS, DRIVERS + "/include", DRIVERS + "/host", DRIVERS + "/recorder", TOP + "/windows")
-    return max(os.path.getmtime(f"{folder}/{it}") for folder in places if os.path.isdir(folder)
-               for it in os.listdir(folder) if it.endswith(".h"))
+    places = (HERE, DRIVERS, DRIVERS + "/include", DRIVERS + "/recorder", TOP + "/windows")
+    found = [f"{folder}/{it}" for folder in places if os.path.isdir(folder) for it in os.listdir(folder) if it.endswith(".h")]
+    return max(map(os.path.getmtime, [*found, *host_files.files(".h").values()]))
 
 
 def is_old(made, source):
@@ -75,14 +76,14 @@ def for_host(edited=()):
     own."""
     cc = os.environ.get("CC", "cc")
     objects = compiled([cc, "-std=gnu11", *STRICT, *HOST], BUILT + "/for_host", *players(HERE + "/on_host"))
-    names = sorted(it for it in os.listdir(DRIVERS + "/host") if it.endswith(".c") and it[:-2] not in HOSTS_OWN)
-    compiler = [cc, "-std=c11", "-g", "-O1", *HOST, f"-I{DRIVERS}", f"-I{DRIVERS}/host"]
-    host = compiled(compiler, BUILT + "/host", [], [f"{DRIVERS}/host/{it}" for it in names])
+    sources = [path for name, path in sorted(host_files.sources().items()) if name[:-2] not in HOSTS_OWN]
+    compiler = [cc, "-std=c11", "-g", "-O1", f"-I{DRIVERS}/host", *HOST, f"-I{DRIVERS}"]
+    host = compiled(compiler, BUILT + "/host", [], sources)
     program = BUILT + "/player"
     if edited:
         folder = os.path.dirname(edited[0])
-        gone = {os.path.basename(it)[:-2] for it in edited}
-        host = [it for it in host if os.path.basename(it)[len("host_"):-2] not in gone]
+        gone = {os.path.basename(it) for it in edited}
+        host = [made for made, source in zip(host, sources) if os.path.basename(source) not in gone]
         host += compiled(compiler, folder + "/made", [], edited)
         program = folder + "/player"
     call([cc, "-pthread", *objects, *host, "-o", program])

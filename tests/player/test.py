@@ -136,8 +136,7 @@ def edited_files(edits, folder):
     os.makedirs(folder)
     made = []
     for name in sorted({it[0] for it in edits}):
-        with open(f"{building.DRIVERS}/host/{name}", encoding="utf-8") as it:
-            text = it.read()
+        text = building.host_files.text(name)
         for file, old, new in edits:
             if file == name and old not in text:
                 raise building.Failed(f"{name} has no {old!r} to edit")

@@ -181,7 +181,7 @@ def words_of(path):
 def tell_functions(source, drivers):
     """Prints how many functions driver.c calls, and those that the host hasn't. Returns what NOT_THERE says wrongly."""
     called = {a or b for a, b in CALL.findall("\n".join(read(source, "driver.c")))}
-    words = words_of(drivers + "/host/system_routines.c")
+    words = words_of(drivers + "/host/rtl/system_routines.c")
     for folder, _, files in os.walk(drivers + "/include"):
         words = words.union(*(words_of(f"{folder}/{it}") for it in files))
     lacks = called - words

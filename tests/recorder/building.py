@@ -3,12 +3,15 @@
 import concurrent.futures
 import os
 import subprocess
+import sys
 
 HERE = os.path.dirname(os.path.abspath(__file__))
 DRIVERS = os.path.dirname(os.path.dirname(HERE)) + "/drivers"
+sys.path.append(DRIVERS)
+import host_files  # noqa: E402 (the path is set above)
 INCLUDES = ["-I" + DRIVERS, "-I" + HERE]
 HOST_FLAGS = ["-g", "-O1", "-fshort-wchar", "-D_GNU_SOURCE", "-pthread", "-I" + DRIVERS + "/include", *INCLUDES]
-HOST_COMPILER = ["cc", "-std=c11", *HOST_FLAGS, "-I" + DRIVERS + "/host"]
+HOST_COMPILER = ["cc", "-std=c11", "-I" + DRIVERS + "/host", *HOST_FLAGS]  # drivers/ has a folder rules/ too
 STRICT = ["-std=c11", "-Wall", "-Wextra", "-Werror"]
 HEADERS = "/usr/x86_64-w64-mingw32/include/ddk"
 RECORDER = sorted(f"{DRIVERS}/recorder/{name}" for name in os.listdir(DRIVERS + "/recorder") if name.endswith(".c"))
@@ -42,8 +45,8 @@ def compile_all(sources, folder, flags):
 
 
 def host_objects(folder):
-    names = sorted(it for it in os.listdir(DRIVERS + "/host") if it.endswith(".c") and it not in OWN_TESTS)
-    return compile_all([f"{DRIVERS}/host/{it}" for it in names], folder + "/host", HOST_COMPILER)
+    sources = [path for name, path in sorted(host_files.sources().items()) if name not in OWN_TESTS]
+    return compile_all(sources, folder + "/host", HOST_COMPILER)
 
 
 def with_edits(objects, folder, edits):
@@ -51,8 +54,7 @@ def with_edits(objects, folder, edits):
     made = {os.path.basename(it): it for it in objects}
     os.makedirs(folder, exist_ok=True)
     for name in sorted({it[0] for it in edits}):
-        with open(f"{DRIVERS}/host/{name}", encoding="utf-8") as it:
-            text = it.read()
+        text = host_files.text(name)
         for file, old, new in edits:
             if file == name and old not in text:
                 raise Failed(f"{name} has no {old!r} to edit")
