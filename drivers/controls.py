@@ -13,6 +13,10 @@ MARKED = f"#include <wdm.h>\n#undef CTL_CODE\n#define CTL_CODE(device, function,
 NAMED = r"((?!STATUS_)[A-Za-z_]\w*(?:\([^()]*\))?)"  # a macro or an enum's constant, or a macro with its arguments
 OWN_INTERNAL = re.compile(r"\[\s*IRP_MJ_INTERNAL_DEVICE_CONTROL\s*\]\s*=")
 TAKEN = re.compile(r"\bObReferenceObjectByHandle\s*\(\s*([^,;]+?)\s*,")
+STRUCTURE = re.compile(r"\bstruct\b(?:\s*__attribute__\s*\(\(.*?\)\))?\s*(\w*)\s*\{((?:[^{}]|\{[^{}]*\})*)\}"
+                       r"(?:\s*__attribute__\s*\(\(.*?\)\))?\s*(\w*)")
+MEMBER = re.compile(r"\b(\w+)\s+(\w+)\s*(?:\[[^\]]*\])?\s*;")
+HERE = os.path.dirname(os.path.abspath(__file__))
 TIMES = 4  # that a source is compiled at most: each time without what isn't constant
 
 
@@ -52,16 +56,38 @@ def internals(sources):
     return "0" if any("Others.Argument" in it for it in texts) else "1"
 
 
-def takes_handles(sources):
-    """Whether a source takes an object by a handle that no call of its own has given it: one that it is sent."""
-    for source in sources:
-        with open(source, encoding="utf-8", errors="replace") as it:
-            text = it.read()
-        for handle in TAKEN.findall(text):
-            own = re.sub(r"^\(\s*HANDLE\s*\)", "", handle).strip()
-            if not re.search(rf"\b(?:Ps|Zw|Nt|Io|Ob)\w+\s*\([^;]*&\s*\(?\s*{re.escape(own)}\s*\)?\s*[,)]", text):
-                return True
+def handles(compiler, flags, sources):
+    """Returns where a source may take an object by a handle that no call of its own has given it, but one that it is sent: of
+    each structure of its own with a HANDLE its length and the handle's place, `12:4,`. "0" where it has none, None where it
+    takes no such object."""
+    if not any(takes_handles(it) for it in sources):
+        return None
+    found = {row for it in sources for row, _ in values(compiler, flags, it, members(compiler, flags, it))}
+    return "".join(f"{it >> 16}:{it & 0xFFFF}," for it in sorted(found)) or "0"
+
+
+def takes_handles(source):
+    with open(source, encoding="utf-8", errors="replace") as it:
+        text = it.read()
+    for handle in TAKEN.findall(text):
+        own = re.sub(r"^\(\s*HANDLE\s*\)", "", handle).strip()
+        if not re.search(rf"\b(?:Ps|Zw|Nt|Io|Ob)\w+\s*\([^;]*&\s*\(?\s*{re.escape(own)}\s*\)?\s*[,)]", text):
+            return True
     return False
+
+
+def members(compiler, flags, source):
+    """Returns for each HANDLE in a structure of a source, or of a header beside it, what its size and place are as one number."""
+    words = [compiler, *flags, "-E", source]
+    said = subprocess.run(words, capture_output=True, text=True, errors="replace", check=False).stdout
+    own, inside = "", {"HANDLE": [""]}
+    for file, text in re.findall(r'^# \d+ "([^"]*)".*\n((?:(?!# ).*\n)*)', said, re.M):
+        own += "" if file.startswith(("<", "/usr/", HERE + "/include/")) else text
+    for tag, body, name in STRUCTURE.findall(own):
+        inside[tag] = inside[name] = [f"{member}{'.' * bool(rest)}{rest}" for kind, member in MEMBER.findall(body)
+                                      for rest in inside.get(kind, [])]
+    rows = ((f"struct {tag}" if tag else name, member) for tag, _, name in STRUCTURE.findall(own) for member in inside[tag or name])
+    return {f"sizeof({its}) << 16 | __builtin_offsetof({its}, {member})": member for its, member in rows}
 
 
 def expressions(compiler, flags, source, text):

@@ -366,9 +366,58 @@ def merged_parts(bench):
 def test_stopped(run, bench):
     """An exploration that is stopped tells which part of it was made."""
     told = bench.ran("--every-order", "--rounds", "9", "--judge", "1", "--minutes", "0.03", HERE + "/stacks/keyboard.c")
-    wanted = r"stopped, since time is up: (all with \d, )?about \d+ % of those with \d \(estimated\), "
+    wanted = r"stopped, since time is up: (all with \d, about \d+ % of those with .* \(estimated\)|some of those with .*), "
     well = told.returncode == 3 and re.search(wanted, told.stdout)
     yield "an exploration that is stopped tells how far it came", None if well else told.stdout
+
+
+CROWD = r"""#include <wdm.h>
+#include "wdm_test.h"
+#include <pthread.h>
+enum { MANY = 14 };
+static PDEVICE_OBJECT top;
+static LONG busy;
+static NTSTATUS Read(PDEVICE_OBJECT DeviceObject, PIRP Irp)
+{
+    const BOOLEAN is_busy = InterlockedExchange(&busy, TRUE) == TRUE;
+    InterlockedExchange(&busy, FALSE);
+    Irp->IoStatus.Status = STATUS_SUCCESS;
+    Irp->IoStatus.Information = is_busy ? 17 : 0; /* more than there is */
+    IoCompleteRequest(Irp, IO_NO_INCREMENT);
+    return STATUS_SUCCESS;
+}
+static NTSTATUS Entry(PDRIVER_OBJECT DriverObject, PUNICODE_STRING RegistryPath)
+{
+    DriverObject->MajorFunction[IRP_MJ_READ] = Read;
+    return IoCreateDevice(DriverObject, 0, NULL, FILE_DEVICE_NULL, 0, FALSE, &top);
+}
+static void *reader(void *context)
+{
+    WdmSend(top, IRP_MJ_READ, 0, 16);
+    return context;
+}
+int main(void)
+{
+    pthread_t threads[MANY];
+    WdmLoadDriver("crowd", Entry);
+    for (int i = 0; i < MANY; i++)
+        pthread_create(&threads[i], NULL, reader, NULL);
+    for (int i = 0; i < MANY; i++)
+        pthread_join(threads[i], NULL);
+    return WdmFinish();
+}
+"""
+
+
+def test_crowd(bench):
+    """Fourteen threads have more orders without a preemption than can be made: a failure that needs one is found in the time."""
+    source = bench.folder("crowd") + "/crowd.c"
+    with open(source, "w", encoding="utf-8") as it:
+        it.write(CROWD)
+    told = bench.ran("--every-order", "--minutes", "0.2", "--judge", "1", source)
+    wanted = r"stopped, since there are too many: some of those with 0 preemptions, .*\nstopped at a failure: .* with at most 1 choice "
+    well = told.returncode == 1 and re.search(wanted, told.stdout) and "FAULT InformationTooLong" in told.stderr
+    yield "a failure behind a round that doesn't end is found", None if well else told.stdout + told.stderr[-400:]
 
 
 def normal(text):
@@ -448,6 +497,7 @@ def tests(run, bench):
               ("untested under every order", lambda: test_untested(run, bench)),
               ("detached under every order", lambda: test_detached(run, bench)),
               ("orders in parts", lambda: test_parts(run, bench)), ("orders stopped", lambda: test_stopped(run, bench)),
+              ("orders of a crowd", lambda: test_crowd(bench)),
               ("orders distinct", lambda: test_distinct(run, bench)),
               ("orders by chance", lambda: test_chance(run, bench)), ("orders with a test's own locks",
                                                                       lambda: test_locks(run, bench))]

@@ -88,7 +88,7 @@ class Exploration:
         """Keeps what became of a piece, or of a test without a name."""
         self.takes(made)
         if made == 0:
-            self.bounds.append(max((it["bound"] for it in report.finished() if it["all"]), default=0))
+            self.bounds.append(max((it["bound"] for it in report.finished() if it["all"] and it["kind"] == "round"), default=0))
         self.found.covered.join(report.covered)
         if words:
             is_out = report.facts.get("apart")

@@ -85,7 +85,7 @@ def is_out(piece, report):
 def tell_piece(piece):
     """Tells in one line what was covered of a piece."""
     last = piece.report.finished()[-1]
-    print(f"{piece.name}: {bound_words(last['bound'])}: {plural(last['runs'], 'run')}, {plural(last['classes'], 'class')} of "
+    print(f"{piece.name}: {bound_words(last)}: {plural(last['runs'], 'run')}, {plural(last['classes'], 'class')} of "
           f"orders, {last['seconds']:.1f} s", flush=True)
 
 
@@ -143,9 +143,9 @@ class Report:
                 self.take(*line.partition(" ")[::2])
 
     def take(self, key, rest):
-        if key in ("round", "part_of_round"):
+        if key.removeprefix("part_of_") in ("round", "choices"):
             words = rest.split()
-            self.rounds.append({"bound": int(words[0]), "all": key == "round",
+            self.rounds.append({"bound": int(words[0]), "all": not key.startswith("part_of_"), "kind": key.removeprefix("part_of_"),
                                 **{words[i]: float(words[i + 1]) for i in range(1, len(words) - 1, 2)}})
         elif key == "outcome":
             classes, _, text = rest.partition(" ")
@@ -162,9 +162,12 @@ class Report:
         return [int(re.match(r"\+(0x[0-9a-f]+)", it)[1], 16) + 1 for it in self.racy]
 
     def finished(self):
-        """Returns the rounds that count: those behind the last start."""
-        last = max((at for at, it in enumerate(self.rounds) if it["bound"] == 0), default=0)
-        return self.rounds[last:]
+        """Returns the rounds that count: of each kind those behind its last start."""
+        found = []
+        for kind, first in ("round", 0), ("choices", 1):
+            its = [it for it in self.rounds if it["kind"] == kind]
+            found += its[max((at for at, it in enumerate(its) if it["bound"] == first), default=0):]
+        return found
 
 
 def settings_of(options, seed=None):
@@ -242,8 +245,9 @@ def write_result(report, options, folder):
         lines = {f"class {piece}{line}" for line in it.read().split()}
     lines |= {f"outcome {piece}{text}" for _, text in report.outcomes} | {f"racy {piece}{it}" for it in report.racy}
     for it in report.finished():
-        covered = "all" if it["all"] else report.facts.get("ended", "crashed")
-        lines.add(f"covered {piece}{plural(it['bound'], 'preemption')}, part {options.part or '1/1'}: {covered}")
+        is_last = it is report.finished()[-1]
+        covered = "all" if it["all"] else report.facts.get("ended", "crashed") if is_last else "stopped"
+        lines.add(f"covered {piece}{cost_words(it)}, part {options.part or '1/1'}: {covered}")
     is_first = options.scenario in (None, next(iter(SCENARIOS)))
     with open(options.result, "w" if is_first else "a", encoding="utf-8") as it:
         it.writelines(line + "\n" for line in sorted(lines))
@@ -253,27 +257,41 @@ def plural(count, word):
     return f"{count:,.0f} {word}{'' if count == 1 else 'es' if word.endswith('s') else 's'}"
 
 
-def bound_words(bound):
-    return "the usual order, and each choice where a thread waits" if not bound else \
-        f"every order with at most {plural(bound, 'preemption')} or early timer{'s' if bound > 1 else ''}"
+def bound_words(it):
+    """What a round has that was made whole."""
+    if not it["bound"]:
+        return "the usual order, and each choice where a thread waits"
+    return f"every order with at most {cost_words(it)}{early_words(it)}"
+
+
+def cost_words(it):
+    return plural(it["bound"], "preemption") if it["kind"] == "round" else plural(it["bound"], "choice") + " other than the usual order's"
+
+
+def early_words(it):
+    return f" or early timer{'s' if it['bound'] > 1 else ''}" if it["kind"] == "round" else ""
 
 
 def covered_words(it):
-    """What a round that was stopped covers."""
-    share = 100 * it["begun"] / it["expected"] if it["expected"] else 0
-    before = f"all with {it['bound'] - 1}, " if it["bound"] else ""
-    return f"{before}about {min(share, 99):.0f} % of those with {it['bound']} (estimated)"
+    """What a round that was stopped covers: how much, where the round before it was made whole, and so tells that."""
+    if not it["expected"]:
+        return f"some of those with {cost_words(it)}"
+    share = min(100 * it["begun"] / it["expected"], 99)
+    return f"all with {it['bound'] - 1}, about {share:.0f} % of those with {cost_words(it)} (estimated)"
 
 
 def tell_rounds(report, part):
     """What was covered, and never more."""
-    for it in report.finished():
+    rounds = report.finished()
+    for it in rounds:
         seconds = f"{it['seconds']:.1f} s"
         if it["all"]:
-            print(f"{bound_words(it['bound'])}{f', part {part}' if part else ''}: "
+            print(f"{bound_words(it)}{f', part {part}' if part else ''}: "
                   f"{plural(it['runs'], 'run')}, {plural(it['classes'], 'class')} of orders, {seconds}")
+        elif it is not rounds[-1]:
+            print(f"stopped, since there are too many: {covered_words(it)}, {plural(it['runs'], 'run')}, {seconds}")
         elif report.facts.get("ended") == "failed":
-            print(f"stopped at a failure: {plural(it['runs'], 'run')} with at most {plural(it['bound'], 'preemption')}, {seconds}")
+            print(f"stopped at a failure: {plural(it['runs'], 'run')} with at most {cost_words(it)}, {seconds}")
         else:
             print(f"stopped, since time is up: {covered_words(it)}, {plural(it['runs'], 'run')}, {seconds}")
     if "limited" in report.facts:
@@ -287,7 +305,7 @@ def tell_next(report):
     """Tells what one more preemption would take, by the choices that were left out and how many of such were runs before."""
     rounds = report.finished()
     last = rounds[-1] if rounds else None
-    if report.facts.get("ended") != "done" or len(rounds) < 2 or not last["expected"] or not last["beyond"]:
+    if report.facts.get("ended") != "done" or len(rounds) < 2 or last["kind"] != "round" or not last["expected"] or not last["beyond"]:
         return
     times = last["beyond"] / last["expected"]
     seconds = max((last["seconds"] - rounds[-2]["seconds"]) * times, 1)

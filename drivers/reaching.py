@@ -351,6 +351,15 @@ def bugs(bench, name):
     yield f"{name} without a mistake", NO_COMPLAINT if not status else f"status {status}: {said[-1200:]}"
 
 
+def packed(bench):
+    """A handle is sent where a structure of the source's own has it."""
+    source = HERE + "/untested/signals.c"
+    for number in 0, 1:
+        said, status = run(bench, "--cflag=-DPACKED", f"--cflag=-DBUG={number}", source)
+        well = status == number and (not number or "FAULT HandleType" in said)
+        yield f"a handle in a packed structure, bug {number}", NO_COMPLAINT if well else said[-900:]
+
+
 def inside(bench):
     """What drivers take from each other alone is sent as an internal control, and isn't told as never taken."""
     said, status = run(bench, HERE + "/untested/inside.c")
@@ -371,7 +380,7 @@ def with_its_flag(bench):
 def tests(bench):
     """Returns the tests: of each a name, and a call that gives names and complaints."""
     return [("own test, mistakes", lambda: mistakes(bench)), ("own test, situations", lambda: situations(bench)), ("own test, samples", lambda: samples(bench)),
-            ("own test, held at removal", lambda: held_at_removal(bench)),
+            ("own test, packed", lambda: packed(bench)), ("own test, held at removal", lambda: held_at_removal(bench)),
             ("own test, a named file", lambda: named_file(bench)), ("own test, seldom", lambda: seldom(bench)),
             ("own test, asleep", lambda: asleep(bench)), ("own test, an own packet", lambda: own_packet(bench)),
             ("own test, a buffer's flag", lambda: with_its_flag(bench)),

@@ -4,6 +4,7 @@ traceback where a file or a pipe fails, or somebody interrupts it."""
 import argparse
 import os
 import re
+import signal
 import sys
 
 USAGE, FAILED, INTERRUPTED = 4, 5, 130
@@ -94,8 +95,9 @@ def counted(count, one, many=None):
 
 def ended(main, name=None):
     """Runs a script, and ends with the status that `main` returns: 5 where a file can't be read or written, or nobody reads
-    what it prints, and 130 where somebody interrupts it."""
+    what it prints, and 130 where somebody interrupts it: an interruption that came while modules were loaded has waited."""
     try:
+        signal.pthread_sigmask(signal.SIG_UNBLOCK, [signal.SIGINT])
         status = main()
         sys.stdout.flush()
     except KeyboardInterrupt:

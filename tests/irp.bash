@@ -111,5 +111,27 @@ words_of <"$room/output" | comm -23 "$room/said" - | grep -vxE 'usage|examples?|
 [ ! -s "$room/lost" ] || { wrong=$((wrong + 1)) && echo "failed: man drive has not: $(tr '\n' ' ' <"$room/lost")"; }
 has='nobody: there is no page of it'
 gives 4 /dev/null man nobody
+
+# Somebody interrupts a script while it loads a module, for which this one stands: it ends without a word.
+mkdir "$room/modules"
+cat >"$room/modules/subprocess.py" <<'END'
+import os
+import signal
+import sys
+
+if hasattr(sys.modules["__main__"], "__file__"):
+    os.kill(os.getpid(), signal.SIGINT)
+sys.path.remove(os.path.dirname(__file__))
+del sys.modules["subprocess"]
+import subprocess
+END
+for script in ../bin/{irp,irp_run,placed,man,completions,watched} ../drivers/run ../lessons/{check,grade,slides} player/{play,minimize}; do
+    tried=$((tried + 1))
+    PYTHONPATH=$room/modules "$script" --help >"$room/output" 2>&1
+    ended=$?
+    if [ "$ended" -eq 130 ] && [ ! -s "$room/output" ]; then continue; fi
+    wrong=$((wrong + 1))
+    echo "failed: $script, interrupted while it loads: status $ended, $(head -c 200 "$room/output")"
+done
 echo "tried: $tried $wrong one command"
 [ "$wrong" -eq 0 ]

@@ -1,5 +1,6 @@
 /* signals.c: a driver that sets a program's event, whose handle a control hands over. BUG names a mistake: 1, it takes an object of
-   any type; 2, it doesn't look whether it got one; 3, it keeps the event that was there before; 4, it takes it in a work item. */
+   any type; 2, it doesn't look whether it got one; 3, it keeps the event that was there before; 4, it takes it in a work item. PACKED:
+   the handle stands at a place where no compiler would put it. */
 #include <wdm.h>
 
 #ifndef BUG
@@ -7,7 +8,13 @@
 #endif
 #define IOCTL_SIGNALS_REGISTER CTL_CODE(FILE_DEVICE_UNKNOWN, 0x950, METHOD_BUFFERED, FILE_ANY_ACCESS)
 #define IOCTL_SIGNALS_RAISE CTL_CODE(FILE_DEVICE_UNKNOWN, 0x951, METHOD_BUFFERED, FILE_ANY_ACCESS)
+#ifdef PACKED
+#include <pshpack1.h>
+#endif
 typedef struct { ULONG Flags; HANDLE Event; } REGISTER, *PREGISTER;
+#ifdef PACKED
+#include <poppack.h>
+#endif
 
 static FAST_MUTEX lock; /* guards the event */
 static PKEVENT event;
@@ -59,8 +66,8 @@ static VOID TakeLater(PDEVICE_OBJECT DeviceObject, PVOID Context)
 static NTSTATUS Register(PDEVICE_OBJECT DeviceObject, PIRP Irp)
 {
     PLATER later;
-    if (IoGetCurrentIrpStackLocation(Irp)->Parameters.DeviceIoControl.InputBufferLength < sizeof(REGISTER))
-        return Complete(Irp, STATUS_BUFFER_TOO_SMALL);
+    if (IoGetCurrentIrpStackLocation(Irp)->Parameters.DeviceIoControl.InputBufferLength != sizeof(REGISTER))
+        return Complete(Irp, STATUS_INFO_LENGTH_MISMATCH);
     if (BUG != 4)
         return Complete(Irp, Take(Irp->AssociatedIrp.SystemBuffer));
     later = ExAllocatePoolWithTag(NonPagedPool, sizeof *later, 'ngiS');

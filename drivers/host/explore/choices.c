@@ -56,9 +56,12 @@ static bool is_in_part(uint32_t step, int choice)
     return (int)((both >> 40) % (unsigned)shared->parts) == shared->part;
 }
 
+/* What a choice costs of the round's bound. */
+static int cost_of(const Choices *c, int choice) { return shared->counts_all ? choice != c->usual : price_of(c, choice); }
+
 static bool is_to_be_made(const Choices *c, uint32_t step, int choice, uint64_t state)
 {
-    const int cost = spent + price_of(c, choice);
+    const int cost = spent + cost_of(c, choice);
     if (cost > shared->bound) {
         shared->beyond++;
         return false;
@@ -89,7 +92,7 @@ static int choices_to_make(const Choices *c, uint32_t step, uint64_t state, ToMa
     int n = 0;
     for (int t = 0; t < MAX_THREADS; t++)
         if (t != c->usual && can_choose(c, t) && is_to_be_made(c, step, t, state))
-            all[n++] = (ToMake){ (uint8_t)t, (uint8_t)(spent + price_of(c, t)) };
+            all[n++] = (ToMake){ (uint8_t)t, (uint8_t)(spent + cost_of(c, t)) };
     if (!shared->reduces || is_in_each_part() || claim(state, c->usual, shared->bound - spent))
         all[n++] = (ToMake){ (uint8_t)c->usual, (uint8_t)spent };
     else if (n)

@@ -37,6 +37,7 @@ typedef struct {
 typedef struct {
     /* set by the explorer before a round */
     int bound, processes, part, parts; /* parts 0: all */
+    bool counts_all;           /* the bound is of all choices but the usual ones, and not of preemptions */
     bool reduces, only_first;  /* only_first: the run by the usual order, whose other choices are counted */
     bool goes_on;              /* past a failure: all classes are wanted, those that fail with them */
     Set states;                /* of the round, each with what was left of the bound */

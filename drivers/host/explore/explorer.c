@@ -15,9 +15,10 @@
 
 enum { MOST_PREEMPTIONS = 16, SECONDS_TO_END = 20 };
 typedef enum { ALL_MADE, FAILED, STOPPED } Ended;
+typedef enum { TO_NEXT, AGAIN, FROM_FIRST, TOO_LONG, IN_CHILD } Next; /* what comes after a round */
 Shared *shared;
 static FILE *report;
-static double began, most_seconds;
+static double began, most_seconds, round_began, round_ends; /* of a round: seconds since it all began */
 static unsigned long expected; /* how many choices cost the whole bound, as the round before saw it */
 static int n_restarts;
 static bool is_child; /* this process goes on into `main` */
@@ -105,9 +106,30 @@ static void show_progress(void)
             share < 99 ? share : 99, now - began);
 }
 
+/* A round has a third of the time that is left, and the last one all of it: else one that never ends, as of many threads
+   without a preemption, would keep those behind it from their first run. */
+static void give_time(bool is_last)
+{
+    round_began = seconds() - began;
+    round_ends = is_last ? most_seconds : round_began + (most_seconds - round_began) / 3;
+}
+
+/* Whether the round would be over in time, were it to go on as so far. The round before tells how much there is to make. */
+static bool is_soon_over(double now)
+{
+    return expected && (now - round_began) * (double)expected < (most_seconds - round_began) * (double)shared->begun;
+}
+
+static bool is_time_up(void)
+{
+    const double now = seconds() - began;
+    return most_seconds > 0 && now > round_ends && (now > most_seconds || !is_soon_over(now));
+}
+
 /* Waits for the first process of a round, and so for all. */
 static void watch(pid_t child)
 {
+    double stopped = 0;
     long pause = 200000;
     int status = 0;
     while (waitpid(child, &status, WNOHANG) == 0) {
@@ -115,9 +137,11 @@ static void watch(pid_t child)
         nanosleep(&t, NULL);
         pause = pause < 50000000 ? pause * 2 : pause;
         show_progress();
-        if (most_seconds > 0 && seconds() - began > most_seconds)
+        if (!stopped && is_time_up()) {
             shared->order = TO_STOP;
-        if (most_seconds > 0 && seconds() - began > most_seconds + SECONDS_TO_END)
+            stopped = seconds();
+        }
+        if (stopped && seconds() - stopped > SECONDS_TO_END)
             kill(child, SIGKILL); /* it waits for the system, for ever */
     }
     if (WIFSIGNALED(status) && shared->order == GOES_ON && shared->forks) {
@@ -145,10 +169,10 @@ static Ended run_round(int bound)
     return shared->has_failed && !shared->goes_on ? FAILED : shared->order == TO_STOP ? STOPPED : ALL_MADE;
 }
 
-static void tell_round(const char *how)
+static void tell_round(bool is_all)
 {
-    fprintf(report, "%s %d runs %lu cut %lu classes %lu states %lu beyond %lu begun %lu expected %lu seconds %.2f\n", how,
-            shared->bound, shared->runs, shared->cut, shared->n_classes, shared->states.n, shared->beyond, shared->begun,
+    fprintf(report, "%s%s %d runs %lu cut %lu classes %lu states %lu beyond %lu begun %lu expected %lu seconds %.2f\n", is_all ? "" : "part_of_",
+            shared->counts_all ? "choices" : "round", shared->bound, shared->runs, shared->cut, shared->n_classes, shared->states.n, shared->beyond, shared->begun,
             expected, seconds() - began);
     fflush(report);
 }
@@ -242,6 +266,43 @@ static bool goes_further(int bound, int most)
     return bound == most + 1 && options.goes_further && seconds() - began < 1;
 }
 
+/* Makes a round, and tells it. The exploration ends where it fails, or where the time for all is up. */
+static Next make_round(int bound, bool is_last)
+{
+    give_time(is_last);
+    const Ended ended = run_round(bound);
+    if (is_child)
+        return IN_CHILD;
+    if (is_process_lost()) {
+        make_forks("a run ended in a way that isn't known, or left something in the system");
+        return AGAIN;
+    }
+    if (ended != FAILED && shared->order == TO_START_OVER) {
+        n_restarts++;
+        return FROM_FIRST;
+    }
+    tell_round(ended == ALL_MADE);
+    if (ended == FAILED || (ended == STOPPED && (is_last || !is_time_up())))
+        end_exploration(ended);
+    expected = ended == ALL_MADE ? shared->beyond : 0;
+    return ended == ALL_MADE ? TO_NEXT : TOO_LONG;
+}
+
+/* There are too many orders with so few preemptions. Bounded are the choices that aren't the usual order's instead, those where
+   a thread waits too: so many threads have no more orders than so many choices. */
+static void explore_by_choices(void)
+{
+    shared->counts_all = true;
+    for (int bound = 1;;) {
+        const Next next = make_round(bound, true);
+        if (next == IN_CHILD)
+            return;
+        if (next == TO_NEXT && !shared->beyond)
+            end_exploration(ALL_MADE);
+        bound = next == FROM_FIRST ? 1 : bound + (next == TO_NEXT);
+    }
+}
+
 /* Returns in the processes that go on into `main`. */
 static void explore_all(int most)
 {
@@ -250,23 +311,12 @@ static void explore_all(int most)
         return;
     }
     for (int bound = 0; bound <= most || goes_further(bound, most);) {
-        const Ended ended = run_round(bound);
+        const Next next = make_round(bound, bound >= most);
+        if (next == TOO_LONG)
+            explore_by_choices();
         if (is_child)
             return;
-        if (is_process_lost()) {
-            make_forks("a run ended in a way that isn't known, or left something in the system");
-            continue;
-        }
-        if (ended != FAILED && shared->order == TO_START_OVER) {
-            n_restarts++;
-            bound = 0;
-            continue;
-        }
-        tell_round(ended == ALL_MADE ? "round" : "part_of_round");
-        if (ended != ALL_MADE)
-            end_exploration(ended);
-        expected = shared->beyond;
-        bound++;
+        bound = next == FROM_FIRST ? 0 : bound + (next == TO_NEXT);
     }
     end_exploration(ALL_MADE);
 }

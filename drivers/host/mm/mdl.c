@@ -247,6 +247,8 @@ void give_mdl(Packet *p)
             give_programs_memory(p, next);
         close_until_probed(p->buffer.bytes, p->irp->RequestorMode == UserMode);
     }
+    if (is_control && method == METHOD_BUFFERED && p->irp->AssociatedIrp.SystemBuffer && next->Parameters.DeviceIoControl.OutputBufferLength)
+        p->irp->Flags |= IRP_INPUT_OPERATION;
     if (next->MajorFunction == IRP_MJ_DEVICE_CONTROL && method == METHOD_BUFFERED && p->irp->RequestorMode == UserMode)
         fill_behind_input(p, next->Parameters.DeviceIoControl.InputBufferLength);
     if (!is_control || (method != METHOD_IN_DIRECT && method != METHOD_OUT_DIRECT))

@@ -129,7 +129,7 @@ static void too_late(int number)
 /* The first thread that comes writes; another one waits for the end that follows. */
 void begin_last_words(void)
 {
-    static _Atomic pthread_t writer;
+    static pthread_t writer; /* changed by that exchange alone */
     pthread_t nobody = 0;
     if (!__atomic_compare_exchange_n(&writer, &nobody, pthread_self(), false, __ATOMIC_SEQ_CST, __ATOMIC_SEQ_CST)) {
         if (pthread_equal(nobody, pthread_self()))

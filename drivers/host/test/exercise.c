@@ -105,7 +105,7 @@ static void use_numbers(PDEVICE_OBJECT top)
 static void send_handle(PDEVICE_OBJECT top, HANDLE handle)
 {
     static const ULONG lengths[] = { 8, 16, 24, 32, 40 };
-    numbers_are_handles = TRUE;
+    number_at = EACH_EIGHT;
     for (int i = 0; handle && i < n_controls; i++)
         for (size_t n = 0; controls[i].major == IRP_MJ_DEVICE_CONTROL && n < ARRAYSIZE(lengths); n++) {
             What what = control(i, lengths[n]);
@@ -113,7 +113,29 @@ static void send_handle(PDEVICE_OBJECT top, HANDLE handle)
             make_request(top, what, PLAIN, SHORTLY);
             made(SITUATION_HANDLES);
         }
-    numbers_are_handles = FALSE;
+    number_at = EACH_FOUR;
+}
+
+/* Each control of this length has it at one place, and zeros elsewhere. */
+static void place_handle(PDEVICE_OBJECT top, HANDLE handle, ULONG length, int place)
+{
+    number_at = place;
+    for (int i = 0; i < n_controls; i++) {
+        What what = control(i, length);
+        what.number = (ULONG)(ULONG_PTR)handle;
+        if (controls[i].major == IRP_MJ_DEVICE_CONTROL)
+            make_request(top, what, PLAIN, SHORTLY);
+    }
+    number_at = EACH_FOUR;
+}
+
+/* Each structure of the source's own that has a handle comes in WDM_HANDLES, by its length and the handle's place. */
+static void send_in_structures(PDEVICE_OBJECT top, HANDLE handle)
+{
+    const char *rest = getenv("WDM_HANDLES");
+    unsigned length, place;
+    for (int read; handle && sscanf(rest, "%u:%u,%n", &length, &place, &read) == 2; rest += read)
+        place_handle(top, handle, length, (int)place);
 }
 
 /* Where a driver takes objects by handles that it is sent: an event's, a file's, and one that is closed. */
@@ -122,10 +144,13 @@ static void use_handles(PDEVICE_OBJECT top, PFILE_OBJECT file)
     HANDLE handles[2];
     if (!options.sends_handles || !make_sent_handles(file, handles))
         return;
-    send_handle(top, handles[0]);
-    send_handle(top, handles[1]);
+    for (int i = 0; i < 2; i++) {
+        send_handle(top, handles[i]);
+        send_in_structures(top, handles[i]);
+    }
     close_sent_handles(handles);
     send_handle(top, handles[0]);
+    send_in_structures(top, handles[0]);
 }
 
 static void send_one(PDEVICE_OBJECT top, What what, Situation s)

@@ -10,7 +10,8 @@ enum { MOST_CONTROLS = 256, NOT_KNOWN = CTL_CODE(FILE_DEVICE_UNKNOWN, 0x7ff, MET
 enum { ROOM_INSIDE = 4096 }; /* bytes of an internal control */
 Control controls[MOST_CONTROLS];
 int n_controls;
-BOOLEAN files_have_context, numbers_are_handles;
+BOOLEAN files_have_context;
+int number_at = EACH_FOUR;
 PDEVICE_OBJECT bottom;
 
 What control(int i, ULONG length)
@@ -41,6 +42,15 @@ static NTSTATUS keep(PDEVICE_OBJECT device, PIRP irp, PVOID context)
     return STATUS_MORE_PROCESSING_REQUIRED;
 }
 
+static void fill_input(PUCHAR input, What what)
+{
+    const ULONG64 handle = what.number;
+    if (number_at >= 0 && number_at + sizeof handle <= what.length)
+        memcpy(input + number_at, &handle, sizeof handle);
+    for (ULONG i = 0; number_at < 0 && what.number && i < what.length / sizeof(ULONG); i++)
+        ((PULONG)input)[i] = number_at == EACH_EIGHT && i % 2 ? 0 : what.number;
+}
+
 BOOLEAN start_request(Request *r, PDEVICE_OBJECT top, What what, How how)
 {
     const BOOLEAN kept = (how & (KEPT | CANCELLED_AFTER)) != 0;
@@ -53,8 +63,8 @@ BOOLEAN start_request(Request *r, PDEVICE_OBJECT top, What what, How how)
         return FALSE;
     if (is_control(what.major))
         IoGetNextIrpStackLocation(r->irp)->Parameters.DeviceIoControl.IoControlCode = what.code;
-    for (ULONG i = 0; what.number && i < what.length / sizeof(ULONG); i++)
-        ((PULONG)r->irp->UserBuffer)[i] = numbers_are_handles && i % 2 ? 0 : what.number;
+    if (what.number)
+        fill_input(r->irp->UserBuffer, what);
     if (what.major == IRP_MJ_DEVICE_CONTROL && what.length == ANSWER_IS_LONGER)
         IoGetNextIrpStackLocation(r->irp)->Parameters.DeviceIoControl.InputBufferLength = 16;
     const BOOLEAN is_internal = what.major == IRP_MJ_INTERNAL_DEVICE_CONTROL;

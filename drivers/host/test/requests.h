@@ -78,7 +78,8 @@ void compare_answers(PDEVICE_OBJECT top, const char *over);
 extern Control controls[];
 extern int n_controls;
 extern BOOLEAN files_have_context; /* then another driver's request has a file too */
-extern BOOLEAN numbers_are_handles; /* then a request's number fills each eight bytes of its input, and not each four */
+enum { EACH_FOUR = -1, EACH_EIGHT = -2 };
+extern int number_at; /* of a request's number in its input: in each four bytes, in each eight, or at this one place as eight */
 void read_controls(void);
 void find_controls(PDEVICE_OBJECT top);
 

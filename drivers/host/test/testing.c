@@ -179,6 +179,8 @@ static void say_whose(PIRP irp, UCHAR major)
                                    [IRP_MJ_CLOSE] = IRP_CLOSE_OPERATION | IRP_SYNCHRONOUS_API,
                                    [IRP_MJ_READ] = IRP_READ_OPERATION | IRP_DEFER_IO_COMPLETION,
                                    [IRP_MJ_WRITE] = IRP_WRITE_OPERATION | IRP_DEFER_IO_COMPLETION,
+                                   [IRP_MJ_QUERY_INFORMATION] = IRP_INPUT_OPERATION | IRP_DEFER_IO_COMPLETION,
+                                   [IRP_MJ_SET_INFORMATION] = IRP_DEFER_IO_COMPLETION,
                                    [IRP_MJ_CLEANUP] = IRP_SYNCHRONOUS_API | IRP_CLOSE_OPERATION };
     const bool is_programs = major == IRP_MJ_CREATE || major == IRP_MJ_READ || major == IRP_MJ_WRITE ||
         major == IRP_MJ_FLUSH_BUFFERS || major == IRP_MJ_DEVICE_CONTROL || major == IRP_MJ_QUERY_INFORMATION ||
