@@ -43,6 +43,11 @@ exit status: 0 nothing is wrong; 1 the transcript is refused; 2 an entry is wron
 
 exit status: 0 done; 1 the transcript is refused; 2 no entry names the packet; 3 out of memory; 4 other words; 5 input or
 output failed; 6 the program can't be built"""),
+    "story": ("Tells the history to a program that draws it, in lines of JSON.\n\n"
+              "They have the header; for each entry whether it is legal, where its packet is then, and that packet's\n"
+              "locations and flags in the manager's state; each step on a remove lock or a cancel slot; and the verdict.\n"
+              "docs/FORMATS.md has the keys.",
+              "examples:\n  irp story my.transcript\n  irp demo | irp story\n\n" + VIEWED),
     "words": ("Takes scripts as people write them: a step a line, with names, comments and hexadecimal numbers.\n\n"
               "  json    prints the JSON of a script in words\n"
               "  words   prints a script of JSON in words, with made-up names\n"
@@ -114,6 +119,10 @@ def take_why(taken):
     add_file(taken)
 
 
+def take_story(taken):
+    add_file(taken)
+
+
 def take_text(taken):
     add_entries(taken)
     add_file(taken)
@@ -164,6 +173,7 @@ WORDS = (
     Word("text", "print a transcript as text", ("bin/placed", "text"), take_text),
     Word("page", "draw a transcript as a page", ("bin/placed", "page"), take_page),
     Word("packet", "print the way of one packet", ("bin/placed", "packet"), take_packet),
+    Word("story", "tell a transcript to a program that draws it", ("bin/irp_view", "story"), take_story),
     Word("words", "turn a script in words into JSON and back, and find its faults", ("bin/irp_words",), take_words, TASKS),
     Word("orders", "tell how each order of a script's steps ends", ("bin/irp_orders",), take_orders),
     Word("live", "answer calls over two pipes", ("bin/irp_live",), take_nothing),

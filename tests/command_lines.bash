@@ -46,7 +46,7 @@ run() {
 
 # What is looked at behind the rows is made beside them.
 for shell in bash zsh; do bin/irp completions $shell >"$room/completions.$shell" & done
-for word in text page packet words orders; do bin/irp $word --help >"$room/help.$word" & done
+for word in text page packet story words orders; do bin/irp $word --help >"$room/help.$word" & done
 
 rows=()
 while IFS= read -r row; do
@@ -86,7 +86,7 @@ flags_in() {
 }
 for program in IRP_VIEW IRP_WORDS IRP_ORDERS; do
     case $program in
-    IRP_VIEW) words='text page packet' ;;
+    IRP_VIEW) words='text page packet story' ;;
     IRP_WORDS) words=words ;;
     IRP_ORDERS) words=orders ;;
     esac

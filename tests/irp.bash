@@ -99,7 +99,7 @@ words_of() {
     tr A-Z a-z | grep -oE '[a-z]{4,}' | sort -u
 }
 has='.SH SYNOPSIS'
-for name in irp run check demo why text page packet words orders live drive play lesson man completions; do
+for name in irp run check demo why text page packet story words orders live drive play lesson man completions; do
     gives 0 /dev/null man "$name"
     for section in NAME DESCRIPTION 'EXIT STATUS' EXAMPLES; do
         grep -qx ".SH $section" "$room/output" || { wrong=$((wrong + 1)) && echo "failed: man $name has no $section"; }

@@ -5,7 +5,7 @@ ghost use Rattle.std.specs.Option.{option_copied};
 ghost use Rattle.std.proofs.Props.{props};
 ghost use Rattle.irp_types.specs.Refusals.{first_refusal};
 ghost use Rattle.irp_types.specs.Standing.{StandingFacts};
-ghost use Rattle.irp_types.specs.State.{AreTables};
+ghost use Rattle.irp_types.specs.State.{AreTables, live_at};
 ghost use Rattle.irp_types.specs.declared.entry.Entry.{Entry};
 ghost use Rattle.irp_manager.specs.Keeps.{mapped};
 ghost use Rattle.irp_manager.specs.ManagerStates.{Agrees, state_of};
@@ -20,7 +20,7 @@ use crate::causes::{cause_in, cause_of};
 use crate::comparing::first_difference;
 use crate::replaying::made_of;
 use crate::verdict::{Verdict, Wrong};
-use irp_manager::{ManagerState, MapKeep};
+use irp_manager::{Live, ManagerState, MapKeep};
 use irp_transcript::Header;
 use irp_types::{Call, Entry, IrpRef, Refusal, Reply, history_goes_on, history_settles_states};
 use std::alloc::{AllocError, Global};
@@ -169,6 +169,14 @@ impl<'a> Judge<'a> {
             Some(refusal) => Reply::Refused(refusal),
             None => Reply::Seen(live.packet.seen()),
         }
+    }
+
+    /// The live packet at this slot, with the number of its use; none where no packet is live there. Behind an entry that
+    /// isn't legal the state is as `would` says.
+    pub fn live(&self, slot: usize) -> Option<&Live>
+        ensures { option_copied result ≡ live_at (seen self.now).state slot }
+    {
+        self.core.live(slot)
     }
 
     /// What of the present state a refusal of this call comes from.

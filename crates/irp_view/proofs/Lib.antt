@@ -8,3 +8,4 @@ pub mod Pieces
 pub mod RefusedCalls
 pub mod Rows
 pub mod Said
+pub mod Stories

@@ -39,7 +39,7 @@ pub written_then : (first second : List ℕ) (old mid new : Bytes) (before betwe
     → Written (first ++ second) old new before after
 written_then first second old mid new before between after one two = (appends_then first second old mid new one.0 two.0, two.1 ∙ one.1)
 
-breaks_then : (first second : List ℕ) (old mid new : Bytes) (before between after : ℕ) (fault : StreamFault) → Written first old mid before between
+pub breaks_then : (first second : List ℕ) (old mid new : Bytes) (before between after : ℕ) (fault : StreamFault) → Written first old mid before between
     → BreaksOff second mid new between after fault → BreaksOff (first ++ second) old new before after fault
 breaks_then first second old mid new before between after fault one two = (
   record {

@@ -37,7 +37,7 @@ use Rattle.irp_view.specs.declared.orders.Order.{Order}
 use Rattle.irp_view.specs.declared.orders.Order.TheVariants.{Help, Read}
 use Rattle.irp_view.specs.declared.orders.Span.{Span}
 use Rattle.irp_view.specs.declared.orders.Task.{Task}
-use Rattle.irp_view.specs.declared.orders.Task.TheVariants.{Why, List as Listing, Draw}
+use Rattle.irp_view.specs.declared.orders.Task.TheVariants.{Why, List as Listing, Draw, Story}
 
 -- ---- the line
 
@@ -73,10 +73,14 @@ packet_line =
 abbrev pub page_line : App
 page_line = with_rule (with_rule (with_rule (new_app (codes "page")) file_word) entries_option) packet_option
 
--- the program, which needs one of its four subcommands
+abbrev pub story_line : App
+story_line = with_rule (new_app (codes "story")) file_word
+
+-- the program, which needs one of its five subcommands
 abbrev pub command_line : App
 command_line =
     with_subcommand
+    (with_subcommand
     (with_subcommand
     (with_subcommand
     (with_subcommand
@@ -84,7 +88,8 @@ command_line =
     why_line.top)
     text_line.top)
     packet_line.top)
-    page_line.top
+    page_line.top)
+    story_line.top
 
 -- ---- what the words mean
 
@@ -140,6 +145,7 @@ DrawsPage rows task =
 abbrev pub IsOther : List ℕ → Type 0
 IsOther name =
     (name ≢ codes "why") × (name ≢ codes "text") × (name ≢ codes "packet") × (name ≢ codes "page")
+    × (name ≢ codes "story")
 
 -- what the subcommand of this name asks for, with these rows of options
 pub record Asks (name : List ℕ) (rows : List Row) (task : Result Task Unasked) : Type 0 where
@@ -147,6 +153,7 @@ pub record Asks (name : List ℕ) (rows : List Row) (task : Result Task Unasked)
   pub text : name ≡ codes "text" → OrUsage (ListsAll rows) task
   pub packet : name ≡ codes "packet" → OrUsage (ListsOne rows) task
   pub page : name ≡ codes "page" → OrUsage (DrawsPage rows) task
+  pub story : name ≡ codes "story" → task ≡ Ok Story
   pub other : IsOther name → task ≡ Err Usage
 
 -- the task, with the file that the rows name if they name one; or the fault

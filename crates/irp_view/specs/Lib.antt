@@ -14,5 +14,6 @@ pub mod RefusedCalls
 pub mod Sections
 pub mod Showing
 pub mod Spans
+pub mod Story
 pub mod Streams
 pub mod Telling

@@ -21,6 +21,7 @@ use Rattle.irp_view.specs.Joined.{ArePut}
 use Rattle.irp_view.specs.Listed.{BreaksAt, Chosen, StopsAt, chosen_of}
 use Rattle.irp_view.specs.Reading.{line_of}
 use Rattle.irp_view.specs.Showing.{Shows}
+use Rattle.irp_view.specs.Story.{BreaksInput, StopsStory, TellsStory}
 use Rattle.irp_view.specs.Streams.{Output, Streams, streams_of}
 use Rattle.irp_view.specs.Telling.{Says, SaysNothing}
 use Rattle.irp_view.specs.declared.orders.Asked.{Asked}
@@ -29,7 +30,7 @@ use Rattle.irp_view.specs.declared.ending.Ending.TheVariants.{Done}
 use Rattle.irp_view.specs.declared.orders.Order.{Order}
 use Rattle.irp_view.specs.declared.orders.Order.TheVariants.{Help, Read}
 use Rattle.irp_view.specs.declared.orders.Task.{Task}
-use Rattle.irp_view.specs.declared.orders.Task.TheVariants.{Why, List as Listing, Draw}
+use Rattle.irp_view.specs.declared.orders.Task.TheVariants.{Why, List as Listing, Draw, Story}
 use Rattle.irp_view.specs.declared.reading.Unread.{Unread}
 
 -- a text went out; or a beginning of it, before a fault
@@ -53,6 +54,7 @@ Answers (Draw choice) transcript before after ending =
     × MatchResult result
     (λ done. Draws choice wrong transcript before.gone after.gone before.failures after.failures)
     (DrawsPart choice wrong transcript before.gone after.gone before.failures after.failures)
+Answers Story transcript before after ending = (ending ≡ Done) × TellsStory transcript before after
 
 -- the input holds a transcript, of which this is told
 abbrev pub AnswersRead : Task → Streams → Streams → Ending → Type 0
@@ -79,14 +81,27 @@ pub record BreaksBefore (chosen : Chosen) (before after : Streams) (ending : End
   pub breaks : BreaksAt chosen fault before after
   pub ending_is : ending ≡ of_unwritten fault
 
--- what was done: the help; or what is asked of the transcript in the input, if there is one. Where entries are listed,
--- those before a line that is refused went out though there is none
+-- the same of a story: that of the lines before the one that is refused went out, without a verdict
+pub record TellsBefore (before after : Streams) (ending : Ending) : Type 0 where
+  pub unread : Unread
+  pub stops : StopsStory (line_of unread) before after
+  pub ending_is : ending ≡ of_unread unread
+
+pub record BreaksTelling (before after : Streams) (ending : Ending) : Type 0 where
+  pub fault : StreamFault
+  pub breaks : BreaksInput fault before after
+  pub ending_is : ending ≡ of_unwritten fault
+
+-- what was done: the help; or what is asked of the transcript in the input, if there is one. Where entries are listed or
+-- a story is told, those before a line that is refused went out though there is none
 abbrev pub Obeys : Order → Streams → Streams → Ending → Type 0
 Obeys Help before after ending = (after.left ≡ before.left) × Helped before.output after.output ending
 Obeys (Read (Listing only span)) before after ending =
     AnswersRead (Listing only span) before after ending
     ⊎ (ShowsBefore (chosen_of only span) before after ending
     ⊎ BreaksBefore (chosen_of only span) before after ending)
+Obeys (Read Story) before after ending =
+    AnswersRead Story before after ending ⊎ (TellsBefore before after ending ⊎ BreaksTelling before after ending)
 Obeys (Read task) before after ending = AnswersRead task before after ending ⊎ ReadsNone before after ending
 
 -- nothing went out, and this is how it ends

@@ -14,6 +14,7 @@ Usage: irp_view why [FILE]
        irp_view text [--entries A..B] [FILE]
        irp_view packet SLOT USE [--entries A..B] [FILE]
        irp_view page [--entries A..B] [--packet SLOT USE] [FILE]
+       irp_view story [FILE]
 
 The transcript is read from FILE, or from standard input. SLOT USE may be written SLOT.USE, as messages tell it.
 
@@ -23,6 +24,7 @@ The transcript is read from FILE, or from standard input. SLOT USE may be writte
   packet  prints only the entries that name this use of a packet
   page    writes an HTML page with a card for each entry, and a picture of each way that a packet went; of the entries
           that are chosen the first 2,000
+  story   prints the story of the history for a program that draws it: lines of JSON (docs/FORMATS.md)
 
   --entries A..B     only the entries from number A up to, and without, number B; either may be left out
   --packet SLOT USE  only the entries that name this use of a packet

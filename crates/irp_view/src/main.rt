@@ -21,6 +21,7 @@ mod rules;
 mod sections;
 mod showing;
 mod spans;
+mod story;
 mod why;
 mod words;
 
@@ -30,7 +31,7 @@ ghost use Rattle.irp_view.specs.Streams.{output_of, streams_of};
 ghost use Rattle.irp_view.specs.Judging.{IsFound};
 ghost use Rattle.irp_feed.specs.Input.{TakesAtMost, most_taken};
 ghost use Rattle.irp_view.specs.declared.orders.Order.TheVariants.{Read as AsksFor};
-ghost use Rattle.irp_view.specs.declared.orders.Task.TheVariants.{Why, List as Listing, Draw as Drawing};
+ghost use Rattle.irp_view.specs.declared.orders.Task.TheVariants.{Why, List as Listing, Draw as Drawing, Story as Telling};
 ghost use Rattle.irp_transcript.specs.Transcripts.{TranscriptValue};
 
 use crate::drawing::draw_judged;
@@ -38,6 +39,7 @@ use crate::ending::Ending;
 use crate::judging::{Judged, judge_input};
 use crate::listing::show_transcript;
 use crate::orders::{Asked, Order, Span, Task};
+use crate::story::tell_transcript;
 use irp_page::{Choice, Draft};
 use irp_program::{open_input, stop, words_of};
 use irp_streams::{Out, WriterOut};
@@ -90,6 +92,20 @@ fn list<R: Read, O: Out>(
     }
 }
 
+/// Tells the story of the transcript in the input, as it is read.
+#[tactic(auto, using(crate::proofs::Stories::takes_told, crate::proofs::Stories::obeys_all, crate::proofs::Stories::obeys_told))]
+fn tell_story<R: Read, O: Out>(alloc: Global, input: &mut R, output: &mut O) -> Ending
+    ensures took { TakesAtMost most_taken (R.remaining input.old) (R.remaining input.new) }
+    ensures obeys { Obeys (AsksFor Telling)
+        (streams_of (R.remaining input.old) (output_of (O.gone output.old) (O.failures output.old)))
+        (streams_of (R.remaining input.new) (output_of (O.gone output.new) (O.failures output.new))) result }
+{
+    match tell_transcript(alloc, input, output) {
+        Ok(()) => Ending::Done,
+        Err(untold) => Ending::from(untold),
+    }
+}
+
 /// Draws a page, which has this title, of the transcript in the input, which is judged as it is read.
 fn draw_page<R: Read, O: Out>(
     alloc: Global,
@@ -131,6 +147,7 @@ fn run<R: Read, O: Out>(
         Task::Why => judge(alloc, input, output),
         Task::List { only, span } => list(alloc, input, output, only, span),
         Task::Draw(choice) => draw_page(alloc, input, output, choice, title),
+        Task::Story => tell_story(alloc, input, output),
     }
 }
 

@@ -22,6 +22,8 @@ pub enum Task {
     },
     /// A page with pictures, of these entries.
     Draw(Choice),
+    /// Its story, from which another program draws.
+    Story,
 }
 
 /// What the program is asked to do.

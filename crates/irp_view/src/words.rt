@@ -28,6 +28,7 @@ ghost use Rattle.irp_view.specs.CommandLine.{
   packet_line,
   packet_option,
   page_line,
+  story_line,
   text_line,
   texts_in,
 };
@@ -91,6 +92,13 @@ fn page<'a>(alloc: Global) -> Result<Command<'a>, AllocError>
     command.arg(packet_option(alloc))
 }
 
+/// The subcommand `story`.
+fn story<'a>(alloc: Global) -> Result<Command<'a>, AllocError>
+    ensures { IfOk result (IsLine story_line) }
+{
+    file_command(alloc, "story")
+}
+
 /// The command line that the program takes.
 fn command<'a>(alloc: Global) -> Result<Command<'a>, AllocError>
     ensures { IfOk result (λ command. app_of command ≡ command_line) }
@@ -99,11 +107,13 @@ fn command<'a>(alloc: Global) -> Result<Command<'a>, AllocError>
     let text = text(alloc)?;
     let packet = packet(alloc)?;
     let page = page(alloc)?;
+    let story = story(alloc)?;
     let command = Command::new(alloc, "irp_view").subcommand_required(true);
     let command = command.subcommand(why)?;
     let command = command.subcommand(text)?;
     let command = command.subcommand(packet)?;
-    command.subcommand(page)
+    let command = command.subcommand(page)?;
+    command.subcommand(story)
 }
 
 /// The span that a text names, if there is a text.
@@ -246,6 +256,7 @@ fn task_of(name: &str, matches: &ArgMatches<'_>) -> Result<Task, Unasked>
         "text" => list_all(matches),
         "packet" => list_one(matches),
         "page" => draw(matches),
+        "story" => Ok(Task::Story),
         _ => Err(Unasked::Usage),
     }
 }

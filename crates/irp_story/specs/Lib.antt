@@ -1,0 +1,4 @@
+pub mod Forms
+pub mod Wrongs
+pub mod Lines
+pub mod Stories
