@@ -1,8 +1,9 @@
 #!/bin/bash
 # Shows that `irp story` tells of a transcript what docs/RULES.md says: the lines of tests/stories were worked out from the
-# rules by hand. That of a transcript with a line that is refused the story of the lines before it is told, without a
-# verdict; and that a text without lines has a verdict alone. IRP_VIEW names the program; without it, it is the one that
-# bin/irp_view runs. Each failure has a line of its own. Ends with status 0 where all was as expected, else with 1.
+# rules by hand, and of each example the model of tests/second_reading has the same packets. That of a transcript with a
+# line that is refused the story of the lines before it is told, without a verdict; and that a text without lines has a
+# verdict alone. IRP_VIEW names the program; without it, it is the one that bin/irp_view runs. Each failure has a line of
+# its own. Ends with status 0 where all was as expected, else with 1.
 set -u
 cd "$(dirname "$(readlink -f "$0")")" || exit 1
 irp_view=${IRP_VIEW:-$(../bin/program irp_view quick)} || exit 1
@@ -63,5 +64,10 @@ for name in sys.argv[2:]:
             print(f"failed: story: {name}: its lines aren't those of the transcript, and a verdict")
 END
 [ ! -s "$room/faults" ] || { wrong=$((wrong + 1)) && cat "$room/faults"; }
+
+# The second reading of the rules has the same packets behind each entry, and finds the same entry wrong.
+tried=$((tried + 1))
+python3 -B second_reading/stories.py "$irp_view" ../examples/*/*.transcript >"$room/faults" 2>&1 || echo 'failed: story: the model' >>"$room/faults"
+[ ! -s "$room/faults" ] || { wrong=$((wrong + 1)) && sed 's/^/failed: story: /' "$room/faults"; }
 echo "tried: $tried $wrong stories"
 [ "$wrong" -eq 0 ]

@@ -106,11 +106,11 @@ class Wrong(NamedTuple):
     header: dict
 
 
-def explain(text):
-    """Returns None where nothing is wrong with a transcript, else what is wrong."""
+def made_again(text):
+    """Yields of each entry of a transcript what `Wrong` has, up to the first that differs; `part` is None where none does."""
     header, entries = read_transcript(text)
     if header is None:
-        return None
+        return
     tables = Tables(dict(zip(RULES, header['completions'])), header['cancels'],
                     [dict(zip(RULES + ('cancel',), it)) for it in header['dispatches']], header['drivers'])
     ask, wish = Recorded(tables), Wish()
@@ -124,6 +124,11 @@ def explain(text):
         lock, drained, asked, reply = manager.apply(call, lambda _lock: given['drained'])
         made = json.loads(json.dumps({'n': place, 'lock': lock, 'drained': drained, 'asked': asked, 'reply': reply}))
         found = first_difference(given, made)
+        yield Wrong(place, given, made, found, manager, header)
         if found:
-            return Wrong(place, given, made, found, manager, header)
-    return None
+            return
+
+
+def explain(text):
+    """Returns None where nothing is wrong with a transcript, else what is wrong."""
+    return next((it for it in made_again(text) if it.part), None)
