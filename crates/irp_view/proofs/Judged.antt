@@ -23,10 +23,7 @@ use Rattle.irp_judge.specs.Checked.{IsExplained, IsFirstIllegal, IsFirstWrong, I
 use Rattle.irp_judge.specs.declared.verdict.Wrong.{Wrong}
 use Rattle.irp_judge.proofs.Feeding.{wrong_stays}
 use Rattle.irp_judge.proofs.Verdicts.{illegal_verdict, legal_verdict, verdict_with}
-use Rattle.irp_view.specs.Judging.{EndsWith, IsFound, IsJudged, IsKept, JudgesAll}
-use Rattle.irp_page.specs.declared.draft.Draft.{Draft}
-use Rattle.irp_page.specs.declared.choosing.Choice.{Choice}
-use Rattle.irp_view.specs.Drafts.{AreDrafted, choice_of}
+use Rattle.irp_view.specs.Judging.{IsFound, IsJudged, IsKept}
 use Rattle.irp_view.specs.RefusedCalls.{HasNoted}
 use Rattle.irp_view.specs.declared.refused_calls.RefusedCalls.{RefusedCalls}
 use Rattle.irp_view.specs.declared.judging.Found.{Found}
@@ -114,42 +111,37 @@ kept_none None = tt
 kept_none (Some wrong) = refl
 
 -- behind the header nothing was judged
-pub starts_judged : (judge : JudgeValue) (kept : Kept) (header : Header) → judge.header ≡ header → HasJudged judge [] → kept.words ≡ 0 → AreDrafted kept.draft []
-    → HasNoted kept.refused [] → kept.entry ≡ None → IsJudged judge kept (choice_of kept.draft) (header_alone header)
-starts_judged judge kept header same judged words drafted noted none = record {
+pub starts_judged : (judge : JudgeValue) (kept : Kept) (header : Header) → judge.header ≡ header → HasJudged judge [] → kept.words ≡ 0
+    → HasNoted kept.refused [] → kept.entry ≡ None → IsJudged judge kept (header_alone header)
+starts_judged judge kept header same judged words noted none = record {
   header = subst (λ (given : Header). Some header ≡ Some given) (sym same) refl;
   judged = judged;
   entry = subst (IsKept [] judge.wrong) (sym none) (kept_none judge.wrong);
   words = words;
-  chosen = refl;
-  drafted = drafted;
   noted = noted;
 }
 
 -- one line more was taken
-pub judged_on : {E : Type 0} (result : Result (Unit {0}) E) (old new : JudgeValue) (kept then : Kept) (choice : Option Choice) (before : TranscriptValue) (line : Line)
-    → IsJudged old kept choice before → IsInPlace before line → new.header ≡ old.header → choice_of then.draft ≡ choice
-    → AreDrafted then.draft (with_line before line).entries → HasNoted then.refused (with_line before line).entries
+pub judged_on : {E : Type 0} (result : Result (Unit {0}) E) (old new : JudgeValue) (kept then : Kept) (before : TranscriptValue) (line : Line)
+    → IsJudged old kept before → IsInPlace before line → new.header ≡ old.header → HasNoted then.refused (with_line before line).entries
     → OnOk result (HasJudged new (with_line before line).entries × IsKept (with_line before line).entries new.wrong then.entry × (then.words ≡ length (with_line before line).words))
-    → MatchResult result (λ done. IsJudged new then choice (with_line before line)) (λ error. Unit {0})
-judged_on (Ok done) old new kept then choice before line was place header chosen drafted noted fed = record {
+    → MatchResult result (λ done. IsJudged new then (with_line before line)) (λ error. Unit {0})
+judged_on (Ok done) old new kept then before line was place header noted fed = record {
   header = header_stays before line old.header place was.header ∙ ap (λ (given : Header). Some given) (sym header);
   judged = fed.0;
   entry = fed.1;
   words = fed.2;
-  chosen = chosen;
-  drafted = drafted;
   noted = noted;
 }
-judged_on (Err fault) old new kept then choice before line was place header chosen drafted noted fed = tt
+judged_on (Err fault) old new kept then before line was place header noted fed = tt
 
 some_header : (known : Option Header) (header : Header) (entries : List Entry) → known ≡ Some header → known ≡ None → entries ≡ []
 some_header known header entries is none = absurd (none-some header (sym none ∙ is))
 
-pub finds : (judge : JudgeValue) (kept : Kept) (choice : Option Choice) (transcript : TranscriptValue) (found : Found) → IsJudged judge kept choice transcript
+pub finds : (judge : JudgeValue) (kept : Kept) (transcript : TranscriptValue) (found : Found) → IsJudged judge kept transcript
     → found.entries ≡ judge.fed → found.words ≡ kept.words → found.wrong ≡ judge.wrong → found.entry ≡ kept.entry
-    → found.draft ≡ kept.draft → found.refused ≡ kept.refused → IsFound transcript found
-finds judge kept choice transcript found are entries words wrong entry draft refused =
+    → found.refused ≡ kept.refused → IsFound transcript found
+finds judge kept transcript found are entries words wrong entry refused =
     let of_judge : IsFirstWrongWith (Some judge.header) transcript.entries judge.wrong = are.judged.wrong in
     let explained : IsExplained transcript found.wrong =
     subst (λ (given : Option Header). IsFirstWrongWith given transcript.entries found.wrong) (sym are.header)
@@ -162,28 +154,16 @@ finds judge kept choice transcript found are entries words wrong entry draft ref
       judged = verdict_with transcript.header transcript.entries found.wrong
           (some_header transcript.header judge.header transcript.entries are.header) explained;
       entry = subst (IsKept transcript.entries found.wrong) (sym entry) there;
-      drafted = subst (λ (given : Option Draft). AreDrafted given transcript.entries) (sym draft) are.drafted;
       noted = subst (λ (given : RefusedCalls). HasNoted given transcript.entries) (sym refused) are.noted;
     }
 
 -- a text without lines
-pub finds_nothing : (found : Found) → found.entries ≡ 0 → found.words ≡ 0 → found.wrong ≡ None → AreDrafted found.draft [] → HasNoted found.refused [] → IsFound no_lines found
-finds_nothing found entries words wrong drafted noted = record {
+pub finds_nothing : (found : Found) → found.entries ≡ 0 → found.words ≡ 0 → found.wrong ≡ None → HasNoted found.refused [] → IsFound no_lines found
+finds_nothing found entries words wrong noted = record {
   entries = entries;
   words = words;
   explained = wrong;
   judged = ap (verdict_of 0) wrong;
   entry = subst (λ (given : Option Wrong). IsKept [] given found.entry) (sym wrong) tt;
-  drafted = drafted;
   noted = noted;
 }
-
--- what was found, with a draft of this choice
-pub judges_choice : (result : Result Judged Unread) (old now : Bytes) (choice : Option Choice) → JudgesAll old now choice result
-    → IfOk result (λ (judged : Judged). choice_of judged.found.draft ≡ choice)
-judges_choice (Ok judged) old now choice is = is.1
-judges_choice (Err unread) old now choice is = tt
-
-pub judges_ends : (result : Result Judged Unread) (old now : Bytes) (choice : Option Choice) → JudgesAll old now choice result → EndsWith old now result
-judges_ends (Ok judged) old now choice is = is.0
-judges_ends (Err unread) old now choice is = is

@@ -1,6 +1,5 @@
 pub mod CommandLine
 pub mod Cuts
-pub mod Drawn
 pub mod Gathered
 pub mod Judged
 pub mod Listed

@@ -20,7 +20,7 @@ use Rattle.std.specs.Prelude.{
   Err,
 }
 use Rattle.std.specs.Borrow.{Bor}
-use Rattle.clap.specs.Words.{Row, Rule, all_of, first_of, new_rule}
+use Rattle.clap.specs.Words.{Row, Rule, first_of, new_rule}
 use Rattle.clap.specs.Simple.{App, new_app, on_top, with_rule, with_subcommand}
 use Rattle.clap.specs.Kinds.{Kinds}
 use Rattle.clap.specs.declared.error.kind.ErrorKind.{ErrorKind}
@@ -30,14 +30,13 @@ use Rattle.irp_command_line.specs.CommandLine.{AsksFor, OfSubcommand, file_word,
 use Rattle.irp_types.specs.declared.names.IrpRef.{IrpRef}
 use Rattle.irp_program.specs.declared.words.Unasked.{Unasked}
 use Rattle.irp_program.specs.declared.words.Unasked.TheVariants.{NoMemory, Usage}
-use Rattle.irp_page.specs.declared.choosing.Choice.{Choice}
-use Rattle.irp_view.specs.Spans.{IsSpan, IsUse, last_place}
+use Rattle.irp_view.specs.Spans.{IsSpan, IsUse}
 use Rattle.irp_view.specs.declared.orders.Asked.{Asked}
 use Rattle.irp_view.specs.declared.orders.Order.{Order}
 use Rattle.irp_view.specs.declared.orders.Order.TheVariants.{Help, Read}
 use Rattle.irp_view.specs.declared.orders.Span.{Span}
 use Rattle.irp_view.specs.declared.orders.Task.{Task}
-use Rattle.irp_view.specs.declared.orders.Task.TheVariants.{Why, List as Listing, Draw, Story}
+use Rattle.irp_view.specs.declared.orders.Task.TheVariants.{Why, List as Listing, Story}
 
 -- ---- the line
 
@@ -48,13 +47,6 @@ needed_word name = record (new_rule name) { required = true }
 -- the option `--entries`, which takes a text
 abbrev pub entries_option : Rule
 entries_option = record (new_rule (codes "entries")) { long = Some (codes "entries"); action = Some Set }
-
--- the option `--packet`, which takes two
-abbrev pub packet_option : Rule
-packet_option = record (new_rule (codes "packet")) {
-  long = Some (codes "packet");
-  range = Some (record { start_inclusive = 2; end_inclusive = 2 });
-}
 
 abbrev pub why_line : App
 why_line = with_rule (new_app (codes "why")) file_word
@@ -70,17 +62,13 @@ packet_line =
     file_word)
     entries_option
 
-abbrev pub page_line : App
-page_line = with_rule (with_rule (with_rule (new_app (codes "page")) file_word) entries_option) packet_option
-
 abbrev pub story_line : App
 story_line = with_rule (new_app (codes "story")) file_word
 
--- the program, which needs one of its five subcommands
+-- the program, which needs one of its four subcommands
 abbrev pub command_line : App
 command_line =
     with_subcommand
-    (with_subcommand
     (with_subcommand
     (with_subcommand
     (with_subcommand
@@ -88,35 +76,19 @@ command_line =
     why_line.top)
     text_line.top)
     packet_line.top)
-    page_line.top)
     story_line.top
 
 -- ---- what the words mean
-
--- texts that were lent, if there are some
-abbrev pub texts_in : Option (Bor (List (Bor (List ℕ)))) → Option (List (List ℕ))
-texts_in = option_map (λ texts. map (λ text. text.now) texts.now)
 
 -- the span that a text names, if there is a text
 abbrev pub IsSpanOf : Option (List ℕ) → Option Span → Type 0
 IsSpanOf None asked = asked ≡ None
 IsSpanOf (Some text) asked = (span : Span) × IsSpan text span × (asked ≡ Some span)
 
--- the use that two texts name, if there are texts
-abbrev pub IsUseOf : Option (List (List ℕ)) → Option IrpRef → Type 0
-IsUseOf (Some (slot ∷ use_no ∷ [])) asked = (irp : IrpRef) × IsUse slot use_no irp × (asked ≡ Some irp)
-IsUseOf (Some texts) asked = ⊥
-IsUseOf None asked = asked ≡ None
-
 -- the use that two texts name, where both are there
 abbrev pub IsNeededUse : Option (List ℕ) → Option (List ℕ) → IrpRef → Type 0
 IsNeededUse (Some slot) (Some use_no) irp = IsUse slot use_no irp
 IsNeededUse slot use_no irp = ⊥
-
--- from this span of entries on a page; all of them where there is none
-abbrev pub chosen : Option IrpRef → Option Span → Choice
-chosen only None = record { from = 0; to = last_place; only = only }
-chosen only (Some span) = record { from = span.from; to = span.to; only = only }
 
 -- such a value; or other words than the program takes, where there is none
 abbrev pub OrUsage : {T : Type 0} → (T → Type 0) → Result T Unasked → Type 0
@@ -135,24 +107,16 @@ ListsOne rows task =
     × IsNeededUse (first_of (codes "slot") rows) (first_of (codes "use") rows) irp
     × IsSpanOf (first_of (codes "entries") rows) span × (task ≡ Listing (Some irp) span)
 
--- a page
-abbrev pub DrawsPage : List Row → Task → Type 0
-DrawsPage rows task =
-    (only : Option IrpRef) × (span : Option Span) × IsUseOf (all_of (codes "packet") rows) only
-    × IsSpanOf (first_of (codes "entries") rows) span × (task ≡ Draw (chosen only span))
-
 -- no subcommand of the program has this name
 abbrev pub IsOther : List ℕ → Type 0
 IsOther name =
-    (name ≢ codes "why") × (name ≢ codes "text") × (name ≢ codes "packet") × (name ≢ codes "page")
-    × (name ≢ codes "story")
+    (name ≢ codes "why") × (name ≢ codes "text") × (name ≢ codes "packet") × (name ≢ codes "story")
 
 -- what the subcommand of this name asks for, with these rows of options
 pub record Asks (name : List ℕ) (rows : List Row) (task : Result Task Unasked) : Type 0 where
   pub why : name ≡ codes "why" → task ≡ Ok Why
   pub text : name ≡ codes "text" → OrUsage (ListsAll rows) task
   pub packet : name ≡ codes "packet" → OrUsage (ListsOne rows) task
-  pub page : name ≡ codes "page" → OrUsage (DrawsPage rows) task
   pub story : name ≡ codes "story" → task ≡ Ok Story
   pub other : IsOther name → task ≡ Err Usage
 

@@ -89,7 +89,7 @@ plain_line (Refused line expected) = codes ""
 plain_line Wrong = codes ""
 plain_line NoMemory = codes "irp: out of memory"
 plain_line OtherWords =
-    codes "irp: usage: irp why, text, page, story or packet SLOT USE, then [FILE]; see irp --help"
+    codes "irp: usage: irp why, text, story or packet SLOT USE, then [FILE]; see irp --help"
 plain_line (NoFile name reason) = codes ""
 plain_line Failed = codes "irp: input or output failed"
 

@@ -7,8 +7,6 @@ use Rattle.irp_judge.specs.Judging.{HasJudged, JudgeValue}
 use Rattle.irp_judge.specs.declared.verdict.Wrong.{Wrong}
 use Rattle.irp_feed.specs.Feeding.{Fails}
 use Rattle.irp_feed.specs.Input.{Bytes, Holds}
-use Rattle.irp_page.specs.declared.choosing.Choice.{Choice}
-use Rattle.irp_view.specs.Drafts.{AreDrafted, choice_of}
 use Rattle.irp_view.specs.Reading.{line_of}
 use Rattle.irp_view.specs.RefusedCalls.{HasNoted}
 use Rattle.irp_view.specs.declared.judging.Found.{Found}
@@ -30,18 +28,14 @@ pub record IsFound (transcript : TranscriptValue) (found : Found) : Type 0 where
   pub explained : IsExplained transcript found.wrong
   pub judged : IsVerdictOn transcript (verdict_of (length transcript.entries) found.wrong)
   pub entry : IsKept transcript.entries found.wrong found.entry
-  pub drafted : AreDrafted found.draft transcript.entries
   pub noted : HasNoted found.refused transcript.entries
 
--- the lines of this transcript were taken, and its entries judged, for a page of this choice, where one is drawn
-pub record IsJudged (judge : JudgeValue) (kept : Kept) (choice : Option Choice) (transcript : TranscriptValue)
-    : Type 0 where
+-- the lines of this transcript were taken, and its entries judged
+pub record IsJudged (judge : JudgeValue) (kept : Kept) (transcript : TranscriptValue) : Type 0 where
   pub header : transcript.header ≡ Some judge.header
   pub judged : HasJudged judge transcript.entries
   pub entry : IsKept transcript.entries judge.wrong kept.entry
   pub words : kept.words ≡ length transcript.words
-  pub chosen : choice_of kept.draft ≡ choice
-  pub drafted : AreDrafted kept.draft transcript.entries
   pub noted : HasNoted kept.refused transcript.entries
 
 -- ---- the input
@@ -50,16 +44,12 @@ pub record IsJudged (judge : JudgeValue) (kept : Kept) (choice : Option Choice) 
 abbrev pub HoldsFound : Bytes → Bytes → Found → Type 0
 HoldsFound old new found = (transcript : TranscriptValue) × Holds old new transcript × IsFound transcript found
 
--- what was found in the transcript that the input holds, with a draft of this choice; or why it holds none
-abbrev pub Ends : Bytes → Bytes → Option Choice → Result Found Unread → Type 0
-Ends old new choice (Ok found) = HoldsFound old new found × (choice_of found.draft ≡ choice)
-Ends old new choice (Err unread) = Fails old new (line_of unread)
+-- what was found in the transcript that the input holds; or why it holds none
+abbrev pub Ends : Bytes → Bytes → Result Found Unread → Type 0
+Ends old new (Ok found) = HoldsFound old new found
+Ends old new (Err unread) = Fails old new (line_of unread)
 
--- the same with the header, and with the draft or without
-abbrev pub JudgesAll : Bytes → Bytes → Option Choice → Result Judged Unread → Type 0
-JudgesAll old new choice (Ok judged) = HoldsFound old new judged.found × (choice_of judged.found.draft ≡ choice)
-JudgesAll old new choice (Err unread) = Fails old new (line_of unread)
-
+-- the same with the header
 abbrev pub EndsWith : Bytes → Bytes → Result Judged Unread → Type 0
 EndsWith old new (Ok judged) = HoldsFound old new judged.found
 EndsWith old new (Err unread) = Fails old new (line_of unread)

@@ -1,6 +1,5 @@
 pub mod Blocks
 pub mod CommandLine
-pub mod Drafts
 pub mod Ending
 pub mod Joined
 pub mod Judging

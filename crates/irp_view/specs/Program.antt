@@ -3,14 +3,11 @@ use Rattle.std.specs.Prelude.{ℕ, ◌≡◌, ◌⊎◌, Err, false, List, Match
 use Rattle.std.specs.Borrow.{Bor}
 use Rattle.clap.specs.Words.{fault_of, subcommand_of}
 use Rattle.irp_transcript.specs.Transcripts.{TranscriptValue}
-use Rattle.irp_judge.specs.Checked.{IsExplained}
 use Rattle.irp_judge.specs.declared.verdict.Verdict.{Verdict}
-use Rattle.irp_judge.specs.declared.verdict.Wrong.{Wrong}
 use Rattle.irp_feed.specs.Feeding.{HoldsNone}
 use Rattle.irp_feed.specs.Input.{Bytes, Holds}
 use Rattle.irp_streams.specs.Writing.{BreaksOff, IsQuiet, Written}
 use Rattle.irp_streams.specs.declared.reading.StreamFault.{StreamFault}
-use Rattle.irp_page.specs.Drawing.{Draws, DrawsPart}
 use Rattle.irp_program.specs.Opening.{IsUnopened}
 use Rattle.irp_program.specs.declared.opening.Unopened.{Unopened}
 use Rattle.irp_program.specs.declared.words.Unasked.{Unasked}
@@ -30,7 +27,7 @@ use Rattle.irp_view.specs.declared.ending.Ending.TheVariants.{Done}
 use Rattle.irp_view.specs.declared.orders.Order.{Order}
 use Rattle.irp_view.specs.declared.orders.Order.TheVariants.{Help, Read}
 use Rattle.irp_view.specs.declared.orders.Task.{Task}
-use Rattle.irp_view.specs.declared.orders.Task.TheVariants.{Why, List as Listing, Draw, Story}
+use Rattle.irp_view.specs.declared.orders.Task.TheVariants.{Why, List as Listing, Story}
 use Rattle.irp_view.specs.declared.reading.Unread.{Unread}
 
 -- a text went out; or a beginning of it, before a fault
@@ -40,7 +37,7 @@ Helped before after ending =
     × MatchResult result (λ done. Written text before.gone after.gone before.failures after.failures)
     (BreaksOff text before.gone after.gone before.failures after.failures)
 
--- what is told of a transcript, by what is asked; a page marks the first entry that isn't legal, if there is one
+-- what is told of a transcript, by what is asked
 abbrev pub Answers : Task → TranscriptValue → Output → Output → Ending → Type 0
 Answers Why transcript before after ending =
     (result : Result Verdict StreamFault) × (ending ≡ ending_of of_verdict result)
@@ -48,12 +45,6 @@ Answers Why transcript before after ending =
     (SaysNothing transcript before.gone after.gone before.failures after.failures)
 Answers (Listing only span) transcript before after ending =
     (ending ≡ Done) × Shows only span transcript before.gone after.gone before.failures after.failures
-Answers (Draw choice) transcript before after ending =
-    (wrong : Option Wrong) × (result : Result (Unit {0}) StreamFault) × IsExplained transcript wrong
-    × (ending ≡ ending_of (λ done. Done) result)
-    × MatchResult result
-    (λ done. Draws choice wrong transcript before.gone after.gone before.failures after.failures)
-    (DrawsPart choice wrong transcript before.gone after.gone before.failures after.failures)
 Answers Story transcript before after ending = (ending ≡ Done) × TellsStory transcript before after
 
 -- the input holds a transcript, of which this is told

@@ -79,7 +79,7 @@ fn plain_line(ending: &Ending) -> &'static str
     match ending {
         Ending::NoMemory => "irp: out of memory",
         Ending::OtherWords => {
-            "irp: usage: irp why, text, page, story or packet SLOT USE, then [FILE]; see irp --help"
+            "irp: usage: irp why, text, story or packet SLOT USE, then [FILE]; see irp --help"
         }
         Ending::Failed => "irp: input or output failed",
         Ending::Done | Ending::Refused { .. } | Ending::Wrong | Ending::NoFile { .. } => "",

@@ -13,7 +13,6 @@ irp_view shows a transcript of a history of IRPs, as irpx and drivers/run write 
 Usage: irp_view why [FILE]
        irp_view text [--entries A..B] [FILE]
        irp_view packet SLOT USE [--entries A..B] [FILE]
-       irp_view page [--entries A..B] [--packet SLOT USE] [FILE]
        irp_view story [FILE]
 
 The transcript is read from FILE, or from standard input. SLOT USE may be written SLOT.USE, as messages tell it.
@@ -22,13 +21,10 @@ The transcript is read from FILE, or from standard input. SLOT USE may be writte
           which rule of docs/RULES.md it breaks; or that nothing is wrong
   text    prints the history, a block of lines for each entry, and the steps on remove locks and cancel slots
   packet  prints only the entries that name this use of a packet
-  page    writes an HTML page with a card for each entry, and a picture of each way that a packet went; of the entries
-          that are chosen the first 2,000
   story   prints the story of the history for a program that draws it: lines of JSON (docs/FORMATS.md)
 
-  --entries A..B     only the entries from number A up to, and without, number B; either may be left out
-  --packet SLOT USE  only the entries that name this use of a packet
-  --help             prints this
+  --entries A..B  only the entries from number A up to, and without, number B; either may be left out
+  --help          prints this
 
 Exit status: 0 done (why: nothing is wrong), 1 the transcript is refused, 2 why: an entry is wrong, 3 out of memory,
 4 other words, 5 input or output failed.
@@ -37,7 +33,6 @@ Examples:
   irpx demo | irp_view why
   irp_view text --entries 10..20 my.transcript
   irp_view packet 0.1 my.transcript
-  irp_view page my.transcript > page.html
 ";
 
 /// Writes the help.

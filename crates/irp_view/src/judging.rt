@@ -1,6 +1,6 @@
 //! The transcript in an input, judged as it is read. Of what was judged the first entry is kept that isn't legal.
 
-ghost use Rattle.std.specs.Prelude.{◌≡◌, ◌+◌, ◌<◌, ◌≤◌, ◌^◌, List, [], ◌∷◌, ◌++◌, length, Option, Some, IfOk, OnOk};
+ghost use Rattle.std.specs.Prelude.{◌≡◌, ◌+◌, ◌<◌, ◌≤◌, ◌^◌, List, [], ◌∷◌, ◌++◌, length, Some, OnOk};
 ghost use Rattle.irp_types.specs.declared.entry.Entry.{Entry};
 ghost use Rattle.irp_judge.specs.Judges.{seen};
 ghost use Rattle.irp_judge.specs.Judging.{HasJudged};
@@ -8,20 +8,16 @@ ghost use Rattle.irp_fast_reader.specs.Fed.{IsInPlace};
 ghost use Rattle.irp_transcript_reader.specs.Reading.{with_line};
 ghost use Rattle.irp_feed.specs.Feeding.{Starts};
 ghost use Rattle.irp_feed.specs.Input.{Bytes, most_bytes};
-ghost use Rattle.irp_page.specs.declared.choosing.Choice.{Choice};
 ghost use Rattle.irp_transcript.specs.Headers.{IsHeader};
 ghost use Rattle.irp_transcript.specs.Transcripts.{TranscriptValue, no_lines};
-ghost use Rattle.irp_view.specs.Drafts.{AreDrafted, choice_of};
-ghost use Rattle.irp_view.specs.Judging.{Ends, EndsWith, IsFound, IsJudged, IsKept, JudgesAll};
+ghost use Rattle.irp_view.specs.Judging.{Ends, EndsWith, IsFound, IsJudged, IsKept};
 
-use crate::drawing::draft_line;
 use crate::reading::{Unread, unread_behind};
 use crate::refusal::Before;
 use crate::refused_calls::{RefusedCalls, note_line};
 use irp_fast_reader::{Line, Reader};
 use irp_feed::{BLOCK, LineSink, Start, feed_rest, read_header};
 use irp_judge::{Judge, Wrong};
-use irp_page::Draft;
 use irp_transcript::Header;
 use irp_types::Entry;
 use std::alloc::{AllocError, Global};
@@ -34,8 +30,6 @@ pub struct Kept {
     pub words: u64,
     /// The first entry that isn't legal; where there is none, the last one.
     pub entry: Option<Entry>,
-    /// What is kept for a page, where one is drawn.
-    pub draft: Option<Draft>,
     /// The calls that are refused.
     pub refused: RefusedCalls,
 }
@@ -51,8 +45,6 @@ pub struct Found {
     pub wrong: Option<Wrong>,
     /// Then the entry that is wrong.
     pub entry: Option<Entry>,
-    /// What was kept for a page, where one is drawn.
-    pub draft: Option<Draft>,
     /// The calls that are refused.
     pub refused: RefusedCalls,
 }
@@ -70,7 +62,6 @@ pub struct Judged {
 fn judge_entry(judge: &mut Judge, kept: &mut Kept, entry: Entry) -> Result<(), AllocError>
     ensures header { (seen judge.new).header ≡ (seen judge.old).header }
     ensures words { kept.new.words ≡ kept.old.words }
-    ensures draft { kept.new.draft ≡ kept.old.draft }
     ensures refused { kept.new.refused ≡ kept.old.refused }
     ensures judged { (history : List Entry) → HasJudged (seen judge.old) history
         → IsKept history (seen judge.old).wrong kept.old.entry → length history + 1 < 2 ^ 64
@@ -88,7 +79,6 @@ fn judge_entry(judge: &mut Judge, kept: &mut Kept, entry: Entry) -> Result<(), A
 /// Has the judge judge a line, if it is an entry, and keeps what is kept of lines.
 fn judge_line(judge: &mut Judge, kept: &mut Kept, line: Line) -> Result<(), AllocError>
     ensures header { (seen judge.new).header ≡ (seen judge.old).header }
-    ensures draft { kept.new.draft ≡ kept.old.draft }
     ensures refused { kept.new.refused ≡ kept.old.refused }
     ensures judged { (before : TranscriptValue) → IsInPlace before line
         → before.header ≡ Some (seen judge.old).header
@@ -119,20 +109,17 @@ struct Judging<'a> {
 }
 
 impl LineSink<()> for Judging<'_> {
-    ghost use Rattle.std.specs.Prelude.{Option};
     ghost use Rattle.irp_judge.specs.Judges.{seen};
-    ghost use Rattle.irp_page.specs.declared.choosing.Choice.{Choice};
     ghost use Rattle.irp_view.specs.Judging.{IsJudged};
 
-    ghost Fixed = { Option Choice };
+    ghost Fixed = { Unit {0} };
 
-    ghost has_taken = { λ judging output choice ended transcript.
-        IsJudged (seen judging.judge) judging.kept choice transcript };
+    ghost has_taken = { λ judging output fixed ended transcript.
+        IsJudged (seen judging.judge) judging.kept transcript };
 
-    ghost has_left = { λ judging output choice transcript. Unit {0} };
+    ghost has_left = { λ judging output fixed transcript. Unit {0} };
 
     fn take(&mut self, line: Line) -> Result<(), AllocError> {
-        draft_line(&mut self.kept.draft, &line)?;
         note_line(&mut self.kept.refused, &line)?;
         judge_line(&mut self.judge, &mut self.kept, line)
     }
@@ -144,9 +131,8 @@ impl LineSink<()> for Judging<'_> {
 
 /// What was found in a transcript, all of whose lines were taken.
 fn found_in(judging: Judging<'_>) -> Found
-    ensures choice { choice_of result.draft ≡ choice_of judging.entry.kept.draft }
-    ensures found { (choice : Option Choice) (transcript : TranscriptValue)
-        → IsJudged (seen judging.entry.judge) judging.entry.kept choice transcript
+    ensures { (transcript : TranscriptValue)
+        → IsJudged (seen judging.entry.judge) judging.entry.kept transcript
         → IsFound transcript result }
 {
     let Judging { judge, kept } = judging;
@@ -155,7 +141,6 @@ fn found_in(judging: Judging<'_>) -> Found
         words: kept.words,
         wrong: judge.into_wrong(),
         entry: kept.entry,
-        draft: kept.draft,
         refused: kept.refused,
     }
 }
@@ -173,22 +158,19 @@ fn judge_rest<R: Read>(
     buffer: &mut [u8],
     reader: &mut Reader,
     start: &Start,
-    draft: Option<Draft>,
 ) -> Result<Found, Unread>
     requires room { 0 < length buffer.old }
     requires header { IsHeader start.now.header }
     requires order { start.now.from ≤ start.now.to }
     requires within { start.now.to ≤ length buffer.old }
     requires few { start.now.left ≤ most_bytes }
-    requires fresh { AreDrafted draft [] }
     ensures { (old : Bytes) → Starts old (R.remaining input.old) start.now reader.old buffer.old
-        → Ends old (R.remaining input.new) (choice_of draft) result }
+        → Ends old (R.remaining input.new) result }
 {
     let judge = Judge::new(alloc, &start.header);
     let kept = Kept {
         words: 0,
         entry: None,
-        draft,
         refused: RefusedCalls::new(alloc),
     };
     let mut judging = Judging { judge, kept };
@@ -205,18 +187,16 @@ fn judge_behind<R: Read>(
     buffer: &mut [u8],
     reader: &mut Reader,
     start: Start,
-    draft: Option<Draft>,
 ) -> Result<Judged, Unread>
     requires room { 0 < length buffer.old }
     requires header { IsHeader start.header }
     requires order { start.from ≤ start.to }
     requires within { start.to ≤ length buffer.old }
     requires few { start.left ≤ most_bytes }
-    requires fresh { AreDrafted draft [] }
     ensures { (old : Bytes) → Starts old (R.remaining input.old) start reader.old buffer.old
-        → JudgesAll old (R.remaining input.new) (choice_of draft) result }
+        → EndsWith old (R.remaining input.new) result }
 {
-    match judge_rest(alloc, input, buffer, reader, &start, draft) {
+    match judge_rest(alloc, input, buffer, reader, &start) {
         Ok(found) => Ok(Judged {
             header: Some(start.header),
             found,
@@ -227,45 +207,35 @@ fn judge_behind<R: Read>(
 
 /// What is found in a transcript without lines.
 #[tactic(auto, using(crate::proofs::Judged::finds_nothing))]
-fn found_nothing(alloc: Global, draft: Option<Draft>) -> Found
-    requires { AreDrafted draft [] }
-    ensures choice { choice_of result.draft ≡ choice_of draft }
-    ensures found { IsFound no_lines result }
+fn found_nothing(alloc: Global) -> Found
+    ensures { IsFound no_lines result }
 {
     Found {
         entries: 0,
         words: 0,
         wrong: None,
         entry: None,
-        draft,
         refused: RefusedCalls::new(alloc),
     }
 }
 
 /// Judges the transcript that the input holds, which is read up to its end: at most 1,073,741,825 bytes are taken, one
-/// more than the text may have. Of the text a block is kept, and the beginning of a line that ends in the next one. A
-/// draft, where one is given, is given the entries and the word lines.
+/// more than the text may have. Of the text a block is kept, and the beginning of a line that ends in the next one.
 ///
 /// # Errors
 ///
 /// `Refused` with the number of the first line that is refused, where the input isn't the text of a transcript; `Input`
 /// where the input failed, or has more than 1,073,741,824 bytes; `NoMemory` where memory ran out.
-pub fn judge_input<R: Read>(
-    alloc: Global,
-    input: &mut R,
-    draft: Option<Draft>,
-) -> Result<Judged, Unread>
-    requires { AreDrafted draft [] }
-    ensures choice { IfOk result (λ judged. choice_of judged.found.draft ≡ choice_of draft) }
-    ensures ends { EndsWith (R.remaining input.old) (R.remaining input.new) result }
+pub fn judge_input<R: Read>(alloc: Global, input: &mut R) -> Result<Judged, Unread>
+    ensures { EndsWith (R.remaining input.old) (R.remaining input.new) result }
 {
     let mut buffer = [0u8; BLOCK];
     let mut reader = Reader::new(alloc);
     match read_header(alloc, input, &mut buffer, &mut reader) {
-        Ok(Some(start)) => judge_behind(alloc, input, &mut buffer, &mut reader, start, draft),
+        Ok(Some(start)) => judge_behind(alloc, input, &mut buffer, &mut reader, start),
         Ok(None) => Ok(Judged {
             header: None,
-            found: found_nothing(alloc, draft),
+            found: found_nothing(alloc),
         }),
         Err(unfed) => Err(unread_behind(alloc, Before::nothing(), unfed)),
     }

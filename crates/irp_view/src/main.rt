@@ -1,11 +1,10 @@
-//! The program that shows transcripts: what is wrong with one, its history as text or as a page, and the entries of one
-//! packet.
+//! The program that shows transcripts: what is wrong with one, its history as text, the entries of one packet, and its
+//! story.
 #![tactic(auto)]
 
 mod answers;
 mod block;
 mod causes;
-mod drawing;
 mod ending;
 mod fields;
 mod help;
@@ -31,16 +30,14 @@ ghost use Rattle.irp_view.specs.Streams.{output_of, streams_of};
 ghost use Rattle.irp_view.specs.Judging.{IsFound};
 ghost use Rattle.irp_feed.specs.Input.{TakesAtMost, most_taken};
 ghost use Rattle.irp_view.specs.declared.orders.Order.TheVariants.{Read as AsksFor};
-ghost use Rattle.irp_view.specs.declared.orders.Task.TheVariants.{Why, List as Listing, Draw as Drawing, Story as Telling};
+ghost use Rattle.irp_view.specs.declared.orders.Task.TheVariants.{Why, List as Listing, Story as Telling};
 ghost use Rattle.irp_transcript.specs.Transcripts.{TranscriptValue};
 
-use crate::drawing::draw_judged;
 use crate::ending::Ending;
 use crate::judging::{Judged, judge_input};
 use crate::listing::show_transcript;
 use crate::orders::{Asked, Order, Span, Task};
 use crate::story::tell_transcript;
-use irp_page::{Choice, Draft};
 use irp_program::{open_input, stop, words_of};
 use irp_streams::{Out, WriterOut};
 use irp_types::IrpRef;
@@ -67,7 +64,7 @@ fn judge<R: Read, O: Out>(alloc: Global, input: &mut R, output: &mut O) -> Endin
         (streams_of (R.remaining input.old) (output_of (O.gone output.old) (O.failures output.old)))
         (streams_of (R.remaining input.new) (output_of (O.gone output.new) (O.failures output.new))) result }
 {
-    match judge_input(alloc, input, None) {
+    match judge_input(alloc, input) {
         Ok(judged) => tell_why(alloc, output, &judged),
         Err(unread) => Ending::from(unread),
     }
@@ -106,34 +103,9 @@ fn tell_story<R: Read, O: Out>(alloc: Global, input: &mut R, output: &mut O) -> 
     }
 }
 
-/// Draws a page, which has this title, of the transcript in the input, which is judged as it is read.
-fn draw_page<R: Read, O: Out>(
-    alloc: Global,
-    input: &mut R,
-    output: &mut O,
-    choice: Choice,
-    title: &str,
-) -> Ending
-    ensures took { TakesAtMost most_taken (R.remaining input.old) (R.remaining input.new) }
-    ensures obeys { Obeys (AsksFor (Drawing choice))
-        (streams_of (R.remaining input.old) (output_of (O.gone output.old) (O.failures output.old)))
-        (streams_of (R.remaining input.new) (output_of (O.gone output.new) (O.failures output.new))) result }
-{
-    match judge_input(alloc, input, Some(Draft::new(alloc, choice))) {
-        Ok(judged) => draw_judged(alloc, output, &judged, title),
-        Err(unread) => Ending::from(unread),
-    }
-}
-
-/// Does what is asked for: reads a transcript, which has this title, from the input, and writes to the output.
+/// Does what is asked for: reads a transcript from the input, and writes to the output.
 #[tactic(auto, using(crate::proofs::Pieces::takes_none))]
-fn run<R: Read, O: Out>(
-    alloc: Global,
-    input: &mut R,
-    output: &mut O,
-    order: Order,
-    title: &str,
-) -> Ending
+fn run<R: Read, O: Out>(alloc: Global, input: &mut R, output: &mut O, order: Order) -> Ending
     ensures took { TakesAtMost most_taken (R.remaining input.old) (R.remaining input.new) }
     ensures obeys { Obeys order
         (streams_of (R.remaining input.old) (output_of (O.gone output.old) (O.failures output.old)))
@@ -146,7 +118,6 @@ fn run<R: Read, O: Out>(
     match task {
         Task::Why => judge(alloc, input, output),
         Task::List { only, span } => list(alloc, input, output, only, span),
-        Task::Draw(choice) => draw_page(alloc, input, output, choice, title),
         Task::Story => tell_story(alloc, input, output),
     }
 }
@@ -156,9 +127,8 @@ fn run_on<O: Out>(rt: &HostRuntime, output: &mut O, asked: Asked<'_>) -> Ending
     ensures { ObeysOn asked.entry (output_of (O.gone output.old) (O.failures output.old))
         (output_of (O.gone output.new) (O.failures output.new)) result }
 {
-    let title = asked.file.unwrap_or("a history");
     match open_input(rt, asked.file) {
-        Ok(mut input) => run(rt.alloc(), &mut input, output, asked.order, title),
+        Ok(mut input) => run(rt.alloc(), &mut input, output, asked.order),
         Err(unopened) => Ending::from(unopened),
     }
 }

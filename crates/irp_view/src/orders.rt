@@ -1,6 +1,5 @@
 //! What the words ask for.
 
-use irp_page::Choice;
 use irp_types::IrpRef;
 
 /// The entries from one place up to another, which isn't among them; places are counted from 0.
@@ -20,8 +19,6 @@ pub enum Task {
         only: Option<IrpRef>,
         span: Option<Span>,
     },
-    /// A page with pictures, of these entries.
-    Draw(Choice),
     /// Its story, from which another program draws.
     Story,
 }

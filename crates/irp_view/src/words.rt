@@ -4,33 +4,27 @@ ghost use Rattle.std.specs.Prelude.{◌≡◌, ◌⊎◌, Err, IfErr, IfOk, List
 ghost use Rattle.clap.specs.Matches.{subcommand_name_of};
 ghost use Rattle.clap.specs.Simple.{subcommand_rows_of};
 ghost use Rattle.clap.specs.Values.{kind_of};
-ghost use Rattle.clap.specs.Words.{Row, all_of, app_of, fault_of, first_of, subcommand_of};
+ghost use Rattle.clap.specs.Words.{Row, app_of, fault_of, first_of, subcommand_of};
 ghost use Rattle.clap.specs.declared.error.kind.ErrorKind.TheVariants.{OutOfMemory};
 ghost use Rattle.irp_program.specs.declared.words.Unasked.TheVariants.{NoMemory, Usage};
 ghost use Rattle.irp_command_line.specs.CommandLine.{IsLine, IsOption, rows_in, text_in};
 ghost use Rattle.irp_view.specs.CommandLine.{
   Asks,
   AsksForOrMemory,
-  DrawsPage,
   FaultedBy,
   IsNeededUse,
   IsReading,
   IsSpanOf,
-  IsUseOf,
   ListsAll,
   ListsOne,
   OrUsage,
   Reads,
-  chosen,
   command_line,
   entries_option,
   needed_word,
   packet_line,
-  packet_option,
-  page_line,
   story_line,
   text_line,
-  texts_in,
 };
 
 use crate::orders::{Asked, Order, Span, Task};
@@ -38,7 +32,6 @@ use crate::spans::{span_in, use_in};
 use clap::error::ErrorKind;
 use clap::{Arg, ArgAction, ArgMatches, Command, Error};
 use irp_command_line::file_command;
-use irp_page::Choice;
 use irp_program::Unasked;
 use irp_types::IrpRef;
 use std::alloc::{AllocError, Global};
@@ -60,13 +53,6 @@ fn needed<'a>(alloc: Global, name: &'a str) -> Arg<'a>
     Arg::new(alloc, name).required(true)
 }
 
-/// The option that names a packet.
-fn packet_option<'a>(alloc: Global) -> Arg<'a>
-    ensures { IsOption packet_option result }
-{
-    Arg::new(alloc, "packet").long("packet").num_args(2)
-}
-
 /// The subcommand `text`.
 fn text<'a>(alloc: Global) -> Result<Command<'a>, AllocError>
     ensures { IfOk result (IsLine text_line) }
@@ -84,14 +70,6 @@ fn packet<'a>(alloc: Global) -> Result<Command<'a>, AllocError>
     command.arg(entries(alloc))
 }
 
-/// The subcommand `page`.
-fn page<'a>(alloc: Global) -> Result<Command<'a>, AllocError>
-    ensures { IfOk result (IsLine page_line) }
-{
-    let command = file_command(alloc, "page")?.arg(entries(alloc))?;
-    command.arg(packet_option(alloc))
-}
-
 /// The subcommand `story`.
 fn story<'a>(alloc: Global) -> Result<Command<'a>, AllocError>
     ensures { IfOk result (IsLine story_line) }
@@ -106,13 +84,11 @@ fn command<'a>(alloc: Global) -> Result<Command<'a>, AllocError>
     let why = file_command(alloc, "why")?;
     let text = text(alloc)?;
     let packet = packet(alloc)?;
-    let page = page(alloc)?;
     let story = story(alloc)?;
     let command = Command::new(alloc, "irp_view").subcommand_required(true);
     let command = command.subcommand(why)?;
     let command = command.subcommand(text)?;
     let command = command.subcommand(packet)?;
-    let command = command.subcommand(page)?;
     command.subcommand(story)
 }
 
@@ -157,46 +133,6 @@ fn use_of(matches: &ArgMatches<'_>) -> Result<IrpRef, Unasked>
     use_named(matches.get_str("slot"), matches.get_str("use"))
 }
 
-/// The use of a packet that texts name, if there are texts.
-fn packet_named(texts: Option<&[&str]>) -> Result<Option<IrpRef>, Unasked>
-    ensures { OrUsage (IsUseOf (texts_in texts.entry)) result }
-{
-    let Some(texts) = texts else {
-        return Ok(None);
-    };
-    let [slot, use_no] = texts else {
-        return Err(Unasked::Usage);
-    };
-    match use_in(slot, use_no) {
-        Some(irp) => Ok(Some(irp)),
-        None => Err(Unasked::Usage),
-    }
-}
-
-/// The use of a packet that the option of `page` names, if it is there.
-fn packet_of(matches: &ArgMatches<'_>) -> Result<Option<IrpRef>, Unasked>
-    ensures { OrUsage (IsUseOf (all_of (codes "packet") (rows_in matches.now))) result }
-{
-    packet_named(matches.get_strs("packet"))
-}
-
-/// These entries on a page.
-fn chosen(only: Option<IrpRef>, span: Option<Span>) -> Choice
-    ensures { result ≡ chosen only span }
-{
-    match span {
-        Some(span) => Choice {
-            from: span.from as u64,
-            to: span.to as u64,
-            only,
-        },
-        None => Choice {
-            only,
-            ..Choice::ALL
-        },
-    }
-}
-
 /// The list of all entries, or of a span of them.
 fn list_all(matches: &ArgMatches<'_>) -> Result<Task, Unasked>
     ensures { OrUsage (ListsAll (rows_in matches.now)) result }
@@ -216,16 +152,6 @@ fn list_one(matches: &ArgMatches<'_>) -> Result<Task, Unasked>
             only: Some(irp),
             span,
         }),
-        (Err(unasked), _) | (_, Err(unasked)) => Err(unasked),
-    }
-}
-
-/// The page.
-fn draw(matches: &ArgMatches<'_>) -> Result<Task, Unasked>
-    ensures { OrUsage (DrawsPage (rows_in matches.now)) result }
-{
-    match (packet_of(matches), span_of(matches)) {
-        (Ok(only), Ok(span)) => Ok(Task::Draw(chosen(only, span))),
         (Err(unasked), _) | (_, Err(unasked)) => Err(unasked),
     }
 }
@@ -255,7 +181,6 @@ fn task_of(name: &str, matches: &ArgMatches<'_>) -> Result<Task, Unasked>
         "why" => Ok(Task::Why),
         "text" => list_all(matches),
         "packet" => list_one(matches),
-        "page" => draw(matches),
         "story" => Ok(Task::Story),
         _ => Err(Unasked::Usage),
     }

@@ -1,4 +1,0 @@
-pub mod Building
-pub mod Placing
-pub mod Plain
-pub mod Telling
