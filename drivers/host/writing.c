@@ -3,7 +3,7 @@
 
 typedef enum { WATCH, CHANGE, KEEPER, KEEP_ON_ERROR, FREE_RULE } Rule;
 static const char *const rule_names[] = { "watch", "change", "keeper", "keep_on_error", "free" };
-typedef struct { int seat, lock, to; const char *act, *reply; uint64_t tag; unsigned step; } Word;
+typedef struct { int seat, lock, to; const char *act, *reply; uint64_t tag; unsigned step; unsigned long order; CallSite at; } Word;
 
 Ids ids;
 static bool finishes[MAX_IDS], leaves[MAX_IDS];
@@ -21,7 +21,8 @@ void record_word(const char *act, int lock, PVOID tag, const char *reply, int by
         if (!words)
             give_up("out of memory");
     }
-    words[n_words] = (Word){ by, lock, to, act, reply, (uint32_t)number_of(tag), (unsigned)n_words };
+    const CallSite at = self.calls ? (CallSite){ self.calls->at, self.calls->name } : (CallSite){ { 0 }, NULL };
+    words[n_words] = (Word){ by, lock, to, act, reply, (uint32_t)number_of(tag), (unsigned)n_words, n_recorded++, at };
     n_words++;
 }
 
@@ -255,6 +256,20 @@ static void put_words(Text *t)
             }
             put(t, "}\n");
         }
+}
+
+/* For the file beside the transcript: where a step was made. */
+static void put_word_place(FILE *o, size_t i)
+{
+    fprintf(o, "{\"by\":{");
+    put_call_site(o, &words[i].at);
+    fprintf(o, "},\"step\":%u}\n", words[i].step);
+}
+
+void add_words(void)
+{
+    for (size_t i = 0; i < n_words; i++)
+        add_line(words[i].order, put_word_place, i);
 }
 
 static void put_driver(Text *t, const DRIVER_OBJECT *d)
