@@ -82,13 +82,18 @@ def of_packet(history, block, entries):
     moved = [n for n in entries if history.facts[n].moves]
     kind = kind_of(filled[0]["major"], filled[0]["word"]) if filled else packets.Sent(history, history.packets[uses[-1]]).kind
     block.use = history.words.packet(uses[-1])
-    cells = [part("block_kind", css="first" if filled else "on", dots="" if filled else ".. ", kind=kind)]
+    cells = [part("block_kind", css="first" if filled else "on", dots="" if filled else ".. ", kind=breakable(kind))]
     if not moved:
         calls = ", ".join(dict.fromkeys(WINDOWS[history.entries[n]["call"]["do"]] for n in entries))
         return [*cells, part("block_calls", text=calls)]
     outcome = history.facts[moved[-1]].outcome
     block.css = CSS.get(outcome[0], "") or ("kept" if outcome[0] == "kept" and outcome[1] is not None else "")
     return [*cells, moved_text(history, history.entries[moved[-1]]["call"], outcome)]
+
+
+def breakable(text):
+    """Returns a long name that a line may break behind an underscore."""
+    return joined(text.split("_"), Html("_<wbr>"))
 
 
 def moved_text(history, call, outcome):

@@ -39,15 +39,6 @@ def read_script(path, header):
     return script if fits else None
 
 
-def sources_of(paths):
-    """Returns the lines of sources, by their files' names."""
-    found = {}
-    for path in paths:
-        with open(path, encoding="utf-8", errors="replace") as it:
-            found[os.path.basename(path)] = it.read().split("\n")
-    return found
-
-
 def history_of(file, path, names=None):
     """Returns the history in an opened transcript, and what is to be told on standard error. `path` is where it stands."""
     story = stories.Story(view_program(), file)
@@ -68,8 +59,8 @@ def page_of(file, path, options):
         raise stories.Untold(f"irp page: no entry names IRP {options.packet}", 2)
     first, _, last = (options.entries or "..").partition("..")
     span = (int(first or 0), int(last or len(history.entries))) if options.entries else None
-    title = options.title or os.path.basename(path or "standard input")
-    return whole.Page(history, title, whole.Chosen(span, packet), sources_of(options.source)).html(), told
+    title = options.title or history.host and history.host.run.get("title") or os.path.basename(path or "standard input")
+    return whole.Page(history, title, whole.Chosen(span, packet)).html(), told
 
 
 def write(text, path):
@@ -86,7 +77,6 @@ def parser_of():
     parser.add_argument("file", nargs="?")
     for name in ("--entries", "--packet", "--names", "--title", "-o"):
         parser.add_argument(name)
-    parser.add_argument("--source", action="append", default=[])
     return parser
 
 

@@ -16,8 +16,8 @@ class Rows:
     """Makes the rows of a history. `is_long` leaves out what would make a long run's page heavy; `only` is the packet that
     the page shows alone."""
 
-    def __init__(self, history, seats, sources, is_long, only=None):
-        self.history, self.words, self.seats, self.sources = history, history.words, seats, sources
+    def __init__(self, history, seats, is_long, only=None):
+        self.history, self.words, self.seats = history, history.words, seats
         self.is_long, self.only = is_long, only
 
     # ---- many rows
@@ -79,11 +79,8 @@ class Rows:
         text = wording.place(by)
         if not text:
             return Html("")
-        return part("place", text=prefix + text, source=part("source", text=self.source(by)) if self.source(by) else "")
-
-    def source(self, by):
-        lines, line = self.sources.get(by.get("file")), int(by.get("line", 0))
-        return lines[line - 1].strip() if lines and 0 < line <= len(lines) else ""
+        source = self.history.host.source(by["file"], by["line"])
+        return part("place", text=prefix + text, source=part("source", text=source) if source else "")
 
     def caller(self, number):
         """Returns where an entry's call was made; of another call, that one's name stands before it."""
@@ -109,7 +106,7 @@ class Rows:
         text, gives = self.words.step(step)
         bad, seat = self.history.is_bad(row), self.history.seat_of(row)
         said = part("gives", css="no" if bad else "gives", text=gives) if gives else ""
-        return part("step_row", seat=seat, bad=Html(" data-bad=1" if bad else ""), lane=self.lane(seat), call=text, gives=said,
+        return part("step_row", number=number, seat=seat, bad=Html(" data-bad=1" if bad else ""), lane=self.lane(seat), call=text, gives=said,
                     place=self.place(self.history.by(row)), body=joined([self.faults(row), more]))
 
     def entry(self, number, more=""):

@@ -156,7 +156,15 @@ class Lanes:
     def foot(self, switch):
         early = part("lane_early") if switch.is_early else ""
         call = switch.at["call"] if switch.how != "ends" else ""
-        return part("lane_foot", how=switch.how, said=HOW[switch.how], call=call, where=short(switch.at["where"]), early=early)
+        source = self.history.host.source_at(switch.at["where"])
+        return part("lane_foot", how=switch.how, said=HOW[switch.how], call=call, where=short(switch.at["where"]), early=early,
+                    source=part("source", text=source) if source else "")
+
+    def source(self, row):
+        """Returns the line of source of a row in which something is wrong."""
+        by = self.history.by(row)
+        source = self.history.host.source(by["file"], by["line"]) if "file" in by and self.history.is_bad(row) else ""
+        return part("source", text=source) if source else Html("")
 
     def faults(self, row):
         return joined(part("lane_fault", mark=verdict.mark_of(it), head=verdict.head_of(it))
@@ -173,10 +181,10 @@ class Lanes:
         if kind == "step":
             text, gives = self.words.step(self.history.steps[at])
             said = part("lane_step", where=where, text=text, gives=f" → {gives}" if gives else "")
-            return part("lane_item", css=css, text=joined([said, self.faults(row)]))
-        return part("lane_item", css=css, text=joined([self.entry(at, where), self.faults(row)]))
+            return part("lane_item", css=css, text=joined([said, self.source(row), self.faults(row)]))
+        return part("lane_item", css=css, text=joined([self.entry(at, where, self.source(row)), self.faults(row)]))
 
-    def entry(self, number, where):
+    def entry(self, number, where, source):
         """Returns an entry as it stands in a stretch."""
         entry, words = self.history.entries[number], self.words
         call, by = entry["call"], entry["call"].get("by")
@@ -191,7 +199,8 @@ class Lanes:
         under = joined(part("lane_sub", where=at_place(by_place), text=words.in_short(asked))
                        for asked, by_place in zip(entry["asked"], places))
         who = part("who", text=words.party(by)) if by not in (None, "o") else ""
-        return part("lane_entry", number=number, where=where, who=who, call=said, gives=gives, under=under)
+        return part("lane_entry", number=number, where=where, who=who, call=said, gives=gives, source=source,
+                    under=under)
 
 
 def at_place(by):

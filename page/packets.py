@@ -104,7 +104,7 @@ def cell(its):
     links = joined([part("link_of", mark=f"e{sent.number}", text=name_of(use), css="no" if wrong else "of")
                     for use, sent, wrong in its], " ")
     more = part("held_count", count=held) if held else ""
-    return part("cell", css="bad" if bad else "count", count=len(its), held=more, fault=part("cell_fault") if bad else "",
+    return part("cell", css="bad" if bad else "some", count=len(its), held=more, fault=part("cell_fault") if bad else "",
                 links=links)
 
 

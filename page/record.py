@@ -27,7 +27,7 @@ class Record:
             if (self.head["bytes"], self.head["crc"]) != (len(text), zlib.crc32(text)):
                 raise Unfit("is of another transcript")
             self.entries, self.steps, self.faults, self.switches, self.notes = {}, {}, [], [], []
-            self.rows, self.threads, self.run = [], {}, {}
+            self.rows, self.threads, self.run, self.sources = [], {}, {}, {}
             for line in lines:
                 self.take(line)
         except (OSError, ValueError, KeyError, TypeError, AttributeError) as why:
@@ -56,8 +56,19 @@ class Record:
                                         line["to"], line["next"]))
         elif "note" in line:
             self.notes.append(f"{line['note']}: {line['said']}")
+        elif "sources" in line:
+            self.sources = line["sources"]
         elif "run" in line:
             self.run = line["run"]
+
+    def source(self, file, number):
+        """Returns a line of source as it was, or nothing."""
+        return self.sources.get(file, {}).get(str(number), "")
+
+    def source_at(self, where):
+        """Returns the line of source at a place that is a text, such as `a.c:12 in F`."""
+        file, _, number = where.partition(" ")[0].rpartition(":")
+        return self.source(file, number)
 
     def by(self, row):
         """Returns the place of a row that is an entry or a step."""

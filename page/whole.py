@@ -43,9 +43,9 @@ class Chosen:
 
 
 class Page:
-    """A page of a history. `sources` has lines of source by their file's name."""
+    """A page of a history."""
 
-    def __init__(self, history, title, chosen, sources):
+    def __init__(self, history, title, chosen):
         self.history, self.title, self.chosen = history, title, chosen
         self.only = chosen.packet
         self.rows = chosen.rows(history)
@@ -53,7 +53,7 @@ class Page:
         self.count = sum(kind == "entry" for kind, _ in self.rows)
         self.is_long = self.count > FEW
         self.blocks = blocks.blocks_of(history, self.rows) if self.is_long else []
-        self.maker = entries.Rows(history, self.seats, sources, self.is_long, self.only)
+        self.maker = entries.Rows(history, self.seats, self.is_long, self.only)
 
     def sections(self):
         """Returns each section with its mark and name; what there is nothing of is empty."""
