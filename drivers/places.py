@@ -7,7 +7,7 @@ import subprocess
 
 HOST = os.path.dirname(os.path.abspath(__file__)) + "/host/"
 MOST_CALLS = 3  # so many of a chain are told
-ADDRESS = r"\+0x[0-9a-f]+ in [^\s,;:()]+"
+ADDRESS = r"\+0x[0-9a-f]+ in [^\s,;:()\"]+"
 
 
 def read_lines(program, addresses):

@@ -8,6 +8,7 @@ from tables import MAJORS, major
 FEW_DEVICES = 6   # above that, those with one table share a row
 MANY_MAJORS = 4   # a dispatch that takes more is told once, as that of all others
 MOST_STACKS = 24
+MANY_ROWS = 8     # a table with more stands behind a line
 
 
 def table_of(history, device):
@@ -35,6 +36,18 @@ def others(by_dispatch, rest):
     return f"{len(its)} others ({', '.join(map(major, its[:5]))}, ..)"
 
 
+def numbers_of(devices):
+    """Returns devices as text: several whose numbers follow each other from the first to the last."""
+    spans = []
+    for it in sorted(devices):
+        if spans and spans[-1][1] == it - 1:
+            spans[-1][1] = it
+        else:
+            spans.append([it, it])
+    return ", ".join(f"D{first}" if first == last else f"D{first}–D{last}" if last > first + 1 else f"D{first}, D{last}"
+                     for first, last in spans)
+
+
 def row(history, devices):
     """Returns the row of a device, or of several that have one table."""
     first, names = devices[0], history.names
@@ -43,7 +56,7 @@ def row(history, devices):
     driver = names.drivers.get(history.driver_of[first])
     of = part("of_driver", name=driver) if driver else ""
     name = history.words.device(first) if len(devices) == 1 else \
-        f"{', '.join(f'D{it}' for it in sorted(devices))} {names.devices.get(first, '')}"
+        f"{numbers_of(devices)} {names.devices.get(first) or ''}"
     return part("device", name=name, table=table_of(history, first), of=of, deleted=deleted)
 
 
@@ -72,7 +85,7 @@ def html(history, used=None):
     order = [it for it in history.order if used is None or it in used]
     rows = defaultdict(list)
     for device in order:
-        key = (history.names.devices.get(device, ""), table_of(history, device)) if len(order) > FEW_DEVICES else device
+        key = (history.names.devices.get(device) or "", table_of(history, device)) if len(order) > FEW_DEVICES else device
         rows[key].append(device)
     if not rows:
         return Html("")
@@ -82,5 +95,7 @@ def html(history, used=None):
         more = f"; {len(chains) - MOST_STACKS} more" if len(chains) > MOST_STACKS else ""
         texts = joined([chain_text(history, it) for it in chains[:MOST_STACKS]], "; ")
         stacks = part("stacks", count=counted(len(chains), "stack"), texts=joined([texts, more]))
-    return part("devices", title="The packet’s devices" if used is not None else "Devices", stacks=stacks,
-                rows=joined(row(history, its) for its in rows.values()))
+    table = part("device_table", rows=joined(row(history, its) for its in rows.values()))
+    if len(rows) > MANY_ROWS:
+        table = part("folded_devices", count=counted(len(order), "device"), table=table)
+    return part("devices", title="The packet’s devices" if used is not None else "Devices", stacks=stacks, table=table)

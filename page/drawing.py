@@ -75,8 +75,9 @@ def write(text, path):
 def parser_of():
     parser = usage.Words(prog="irp page", formatter_class=argparse.RawDescriptionHelpFormatter)
     parser.add_argument("file", nargs="?")
-    for name in ("--entries", "--packet", "--names", "--title", "-o"):
+    for name in ("--entries", "--packet", "--names", "--title"):
         parser.add_argument(name)
+    parser.add_argument("-o", "--out")
     return parser
 
 
@@ -90,7 +91,7 @@ def main():
         return why.status
     if told:
         print(told, file=sys.stderr)
-    write(text, options.o)
+    write(text, options.out)
     return 0
 
 

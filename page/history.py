@@ -109,14 +109,14 @@ class History:
             placed = {it[1] for it in rows if it[0] == "step"}
             rows = [it for it in rows if it[0] != "fault" or self.host.faults[it[1]].of is None]
             return rows, [it for it in sorted(self.steps) if it not in placed]
-        places = script.places(len(self.entries), self.steps.values()) if script else None
+        places = script.places(self.entries, self.steps.values()) if script else None
         if places is None:
             return [("entry", n) for n in range(len(self.entries))], sorted(self.steps)
         before = defaultdict(list)
         for step, place in sorted(places.items()):
             before[place].append(("step", step))
         rows = [row for n in range(len(self.entries) + 1) for row in (*before[n], ("entry", n))]
-        return rows[:-1], []
+        return rows[:-1], [it for it in sorted(self.steps) if it not in places]
 
     def by(self, row):
         """Returns where a row's call was made, as the host tells it."""

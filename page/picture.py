@@ -6,6 +6,7 @@ from tables import CANCELLED, WINDOWS, is_success, result, status
 LEFT, RIGHT, WIDE, TALL, ROW, ABOVE = 82, 248, 148, 40, 54, 7
 FIRSTS = {"finish": "complete", "hold": "pend and hold", "hold_slot": "pend and hold", "skip": "skip, send on",
           "forward": "copy, send on", "forward_pend": "pend, send on"}
+MOST_NAME, MOST_SMALL = 11, 13  # characters of a device's name that stand on one line; and of a driver's below it
 ALL = -1  # all of the entry is wrong, and no step of it
 
 
@@ -126,11 +127,14 @@ class Picture:
         """Draws a device's row: its name, and the location in which its dispatch had the packet."""
         top, is_device = self.top(row), row is not None
         band = part("svg_lane", y=top - ABOVE, tall=ROW) if place % 2 == 0 else ""
-        name = self.words.device(row) if is_device else "originator"
-        css, most = ("name", 8) if is_device else ("small", 12)
-        low = top + (24 if location is None else 18)
-        under = "" if location is None else text_at("small soft", 6, top + 33, 14, f"location {location}", 72)
-        return joined([band, text_at(css, 6, low, most, name, 69), under])
+        texts = [("name" if is_device else "small", self.words.device(row) if is_device else "originator")]
+        if is_device and len(texts[0][1]) > MOST_NAME:
+            name = self.words.names.devices[row]
+            texts = [("name", f"D{row}"), ("small", name if len(name) <= MOST_SMALL else name[:MOST_SMALL - 1] + "…")]
+        texts += [] if location is None else [("small soft", f"location {location}")]
+        low = top + (24, 18, 12)[len(texts) - 1]
+        return joined([band, *[text_at(css, 6, low + 15 * at, 8 if css == "name" else 12, text, 69)
+                               for at, (css, text) in enumerate(texts)]])
 
     def svg(self):
         """Returns the picture."""

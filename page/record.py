@@ -26,7 +26,7 @@ class Record:
                 self.head, *lines = map(json.loads, it)
             if (self.head["bytes"], self.head["crc"]) != (len(text), zlib.crc32(text)):
                 raise Unfit("is of another transcript")
-            self.entries, self.steps, self.faults, self.switches, self.notes = {}, {}, [], [], []
+            self.entries, self.steps, self.faults, self.switches, self.notes, self.details = {}, {}, [], [], [], []
             self.rows, self.threads, self.run, self.sources = [], {}, {}, {}
             for line in lines:
                 self.take(line)
@@ -56,6 +56,8 @@ class Record:
                                         line["to"], line["next"]))
         elif "note" in line:
             self.notes.append(f"{line['note']}: {line['said']}")
+        elif "detail" in line:
+            self.details.append(line["detail"])
         elif "sources" in line:
             self.sources = line["sources"]
         elif "run" in line:

@@ -10,8 +10,8 @@ ON_LOCKS = ("acquire", "release", "begin_remove", "drained", "hand", "publish", 
 
 
 class Script:
-    """The names of a script in words, and for each setup line and step whether it makes an entry: None where that
-    hangs on a condition."""
+    """The names of a script in words, how many calls its setup has, and of each step the seat and what it does: None where
+    it hangs on a condition."""
 
     def __init__(self, text):
         self.devices, self.drivers, self.dispatches, self.cancels = {}, {}, {}, {}
@@ -25,7 +25,7 @@ class Script:
 
     def read_json(self, script):
         self.setup = len(script["setup"])
-        self.steps = [None if "if" in it else it["do"] not in ON_LOCKS for it in script["steps"]]
+        self.steps = [None if "if" in it else (it["seat"], it["do"]) for it in script["steps"]]
 
     def read_words(self, text):
         section = ""
@@ -59,7 +59,7 @@ class Script:
     def take_step(self, section, words):
         """Takes a line of the setup or a step."""
         words = words[1:] if words[0].endswith(":") else words
-        words = words[2:] if words[0] == "seat" else words
+        seat, words = (self.seat(words[1]), words[2:]) if words[0] == "seat" else (0, words)
         do, count = words[0], 1
         if do == "stack":
             count = self.take_stack(words[1:])
@@ -70,7 +70,11 @@ class Script:
         if section == "setup":
             self.setup += count
         else:
-            self.steps += [None if do == "if" else do not in ON_LOCKS] * count
+            self.steps += [(seat, "create_device"), *[(seat, "create_device"), (seat, "attach")] * (count // 2)] \
+                if do == "stack" else [None if do == "if" else (seat, do)]
+
+    def seat(self, name):
+        return int(name) if name.isdigit() else next((n for n, it in self.seats.items() if it == name), 0)
 
     def take_device(self, name):
         self.devices[self.made] = name
@@ -83,15 +87,30 @@ class Script:
             self.take_device(name or None)
         return 2 * len(drivers) - 1
 
-    def places(self, count, steps):
-        """Returns before which entry each step without one happened, by its number; or None where that isn't known: it
-        hangs on a condition, or the history has another number of entries."""
-        if None in self.steps:
+    def places(self, entries, steps):
+        """Returns before which entry each step without one happened, by its number; of a step that isn't there it isn't
+        known: another seat's calls stand beside it. None where the history isn't one of this script without conditions."""
+        if None in self.steps or {it["step"] for it in steps} != {n for n, (_, do) in enumerate(self.steps) if do in ON_LOCKS}:
             return None
-        wanted, before, found = {it["step"] for it in steps}, self.setup, {}
-        for step in range(len(self.steps)):
-            if step in wanted:
-                found[step] = before
-            else:
-                before += 1
-        return found if before == count and len(found) == len(wanted) else None
+        found = {}
+        for seat in {it[0] for it in self.steps}:
+            if not self.place_of_seat(seat, entries, found):
+                return None
+        return found
+
+    def place_of_seat(self, seat, entries, found):
+        """Finds the places of a seat's steps. Returns whether its calls are those of the script."""
+        its = [n for n in range(self.setup, len(entries)) if entries[n]["seat"] == seat]
+        own = [(n, do) for n, (by, do) in enumerate(self.steps) if by == seat]
+        if [do for _, do in own if do not in ON_LOCKS] != [entries[n]["call"]["do"] for n in its]:
+            return False
+        made = 0
+        for step, do in own:
+            if do not in ON_LOCKS:
+                made += 1
+                continue
+            least = its[made - 1] + 1 if made else self.setup
+            most = its[made] if made < len(its) else len(entries)
+            if least == most:
+                found[step] = least
+        return True

@@ -68,12 +68,23 @@ class Strip:
             y = place * LANE + TOP
             self.pieces.append(part("strip_lane", y=y))
             self.names.append(part("strip_name", y=y, text=self.history.words.thread(seat)))
+        for mark, seat, css, first, last in self.spans():
+            self.bar(mark, css or "ran", f"entries {first} to {last}", first, last + 1, self.seats.index(seat) * LANE + TOP, 14, .6)
+
+    def spans(self):
+        """Returns what a bar shows: a block; or several, one behind another, where they are too small to be told apart."""
+        found = []
         for block in self.blocks:
             numbers = block.entries()
-            if numbers:
-                title = f"entries {numbers[0]} to {numbers[-1]}"
-                self.bar(block.mark, block.css or "ran", title, numbers[0], numbers[-1] + 1,
-                         self.seats.index(block.seat) * LANE + TOP, 14, .6)
+            if not numbers:
+                continue
+            now = [block.mark, block.seat, block.css, numbers[0], numbers[-1]]
+            last = found[-1] if found else None
+            if last and last[1:3] == now[1:3] and (numbers[-1] - last[3]) * self.scale < 1:
+                last[4] = numbers[-1]
+            else:
+                found.append(now)
+        return found
 
     def held(self):
         """Puts how long packets were held."""

@@ -3,7 +3,7 @@
 from collections import defaultdict
 
 import words as wording
-from parts import Html, counted, joined, link, part
+from parts import Html, counted, joined, link, part, when
 
 MOST_LINKS = 6
 
@@ -120,7 +120,8 @@ def list_of_faults(history, chosen):
     """Returns the section of the faults, or nothing."""
     items = [part("fault", head=joined([head_of(it), " ", link(mark_of(it), place_of(history, it))]), text=text_of(it))
              for it in chosen]
-    return part("faults", items=joined(items)) if items else Html("")
+    details = joined(part("detail", text=it) for it in dict.fromkeys(history.host.details)) if history.host else ""
+    return part("faults", items=joined(items), details=when(details, "details", items=details)) if items else Html("")
 
 
 def place_of(history, fault):

@@ -1,6 +1,6 @@
 """What the things and events of a history are called, in the words of the WDK."""
 
-from tables import CANCELLED, REFUSALS, WINDOWS, major, result, status
+from tables import CANCELLED, NO_USE, REFUSALS, WINDOWS, major, result, status
 from parts import counted
 
 FLAGS = {"s": "on success", "e": "on error", "c": "on cancel"}
@@ -29,6 +29,8 @@ class Words:
         return "originator" if it in ("o", None) else self.device(it)
 
     def packet(self, use):
+        if use[0] == NO_USE:
+            return "an IRP that isn’t there"
         label = self.names.packets.get(tuple(use))
         return f"IRP {use[0]}.{use[1]}" + (f" {label}" if label else "")
 

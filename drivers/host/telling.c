@@ -55,6 +55,9 @@ void say(const char *how, ...)
     va_end(list);
     if (n > (int)sizeof text - 2)
         n = (int)sizeof text - 2;
+    text[n] = 0;
+    if (!strncmp(how, "  ", 2))
+        remember_told(&(Telling){ "detail", text + strlen("host:   "), NULL, NULL, NULL, NULL, NULL });
     text[n++] = '\n';
     write_error(text, (size_t)n);
 }
