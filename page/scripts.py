@@ -90,23 +90,24 @@ class Script:
     def places(self, entries, steps):
         """Returns before which entry each step without one happened, by its number; of a step that isn't there it isn't
         known: another seat's calls stand beside it. None where the history isn't one of this script without conditions."""
-        if None in self.steps or {it["step"] for it in steps} != {n for n, (_, do) in enumerate(self.steps) if do in ON_LOCKS}:
+        without = {it["step"] for it in steps}
+        if None in self.steps or not all(n in without or do not in ON_LOCKS for n, (_, do) in enumerate(self.steps)):
             return None
         found = {}
         for seat in {it[0] for it in self.steps}:
-            if not self.place_of_seat(seat, entries, found):
+            if not self.place_of_seat(seat, entries, without, found):
                 return None
         return found
 
-    def place_of_seat(self, seat, entries, found):
-        """Finds the places of a seat's steps. Returns whether its calls are those of the script."""
+    def place_of_seat(self, seat, entries, without, found):
+        """Finds the places of a seat's steps without an entry. Returns whether its calls are those of the script."""
         its = [n for n in range(self.setup, len(entries)) if entries[n]["seat"] == seat]
         own = [(n, do) for n, (by, do) in enumerate(self.steps) if by == seat]
-        if [do for _, do in own if do not in ON_LOCKS] != [entries[n]["call"]["do"] for n in its]:
+        if [do for step, do in own if step not in without] != [entries[n]["call"]["do"] for n in its]:
             return False
         made = 0
-        for step, do in own:
-            if do not in ON_LOCKS:
+        for step, _ in own:
+            if step not in without:
                 made += 1
                 continue
             least = its[made - 1] + 1 if made else self.setup

@@ -5,7 +5,8 @@ from parts import counted
 
 FLAGS = {"s": "on success", "e": "on error", "c": "on cancel"}
 STEPS = {"acquire": "IoAcquireRemoveLock", "release": "IoReleaseRemoveLock", "begin_remove": "IoReleaseRemoveLockAndWait",
-         "publish": "publish in", "withdraw": "withdraw from", "request": "request"}
+         "publish": "publish in", "withdraw": "withdraw from", "request": "request",
+         "finish_taken": "finish by the token of"}
 GIVES = {"ok": "", "not_held": "not held", "lost": "lost: another took it", "nothing": "nothing there",
          "no_token": "no token: nothing was called", "standing": "it stands there"}
 # Replies of steps that say that something is wrong.
@@ -134,7 +135,7 @@ class Words:
         device, _, _, code, location, word, now, information, returned, cancel, _, has_lower = asked["shown"]
         who, more = self.party(device), ", cancel flag" if cancel else ""
         if "dispatch" in asked:
-            below = "" if has_lower else ", nothing below"
+            below = ("" if has_lower else ", nothing below") + (f", {result(now, information)}" if now or information else "")
             return f"{who} {self.dispatch(asked['dispatch'])}: {major(code, word)}, location {location}{below}{more}"
         if "completion" in asked:
             pended = ", PendingReturned" if returned else ""
@@ -167,7 +168,8 @@ class Words:
             return "IoSkipCurrentIrpStackLocation, IoCallDriver"
         mark = "IoMarkIrpPending, " if kind == "forward_pend" else ""
         routine = f"IoSetCompletionRoutine({self.setting(rest[0])}), " if rest[0] else ""
-        return f"{mark}IoCopyCurrentIrpStackLocationToNext, {routine}IoCallDriver"
+        pended = ", returns STATUS_PENDING" if kind == "forward_pend" else ""
+        return f"{mark}IoCopyCurrentIrpStackLocationToNext, {routine}IoCallDriver{pended}"
 
     def in_short(self, asked):
         """A question with its answer, in a few words: the way down, or up."""
