@@ -14,11 +14,11 @@ OUTCOMES = ("call_driver", "complete", "finish_taken", "cancel")
 
 class Rows:
     """Makes the rows of a history. `is_long` leaves out what would make a long run's page heavy; `only` is the packet that
-    the page shows alone."""
+    the page shows alone. `tells` says whether an illegal entry's mistake is told."""
 
-    def __init__(self, history, seats, is_long, only=None):
+    def __init__(self, history, seats, is_long, only=None, tells=True):
         self.history, self.words, self.seats = history, history.words, seats
-        self.is_long, self.only = is_long, only
+        self.is_long, self.only, self.tells = is_long, only, tells
 
     # ---- many rows
 
@@ -126,14 +126,24 @@ class Rows:
                     gives=part("gives", css="no" if fact.refused else "gives", text=reply) if reply else "",
                     place=self.caller(number), body=body)
 
+    def moment(self, number):
+        """Returns an entry's call as a text, and all that its row shows."""
+        fact, entry = self.history.facts[number], self.history.entries[number]
+        reply, by = self.words.reply(entry), entry["call"].get("by")
+        call = self.words.call(entry, bool(self.history.host))
+        gives = part("gives", css="no" if fact.refused else "gives", text=reply) if reply else ""
+        who = part("by_who", text=self.words.party(by)) if by is not None else ""
+        return f"{call} → {reply}" if reply else call, part("moment", who=who, call=call, gives=gives,
+                                                            place=self.caller(number), body=self.told(fact))
+
     # ---- what an entry did to its packet
 
     def told(self, fact):
         """Returns who was asked, the picture, and the packet's locations; of an illegal entry also the manager's own."""
-        wrong = wrong_step(fact.wrong) if fact.wrong else None
+        wrong = wrong_step(fact.wrong) if fact.wrong and self.tells else None
         pieces = [self.moved(fact, fact.entry, fact.outcome, f"e{fact.entry['n']}", wrong)]
         if fact.wrong:
-            pieces.append(self.illegal(fact))
+            pieces.append(self.illegal(fact) if self.tells else part("not_told"))
         return joined(pieces)
 
     def moved(self, fact, entry, outcome, mark, wrong):

@@ -135,6 +135,15 @@ class Page:
         return without_dead_links(whole)
 
 
+def moments(history, packet):
+    """Returns the entries of a packet, or all, each with its number, its call, and what shows it, but not what is wrong with
+    it. What shows it has no links."""
+    numbers = history.packets[packet].entries if packet else range(len(history.entries))
+    maker = entries.Rows(history, [], False, packet or (), False)
+    return [(number, call, re.sub(r' href="#[em]\d[^"]*"| id="[^"]*"', "", shown))
+            for number, (call, shown) in ((n, maker.moment(n)) for n in numbers)]
+
+
 def without_dead_links(text):
     """Returns a page without links to entries and blocks that it doesn't show."""
     marks = set(re.findall(r' id="([^"]+)"', text))
