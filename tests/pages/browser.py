@@ -9,7 +9,7 @@ import subprocess
 import tempfile
 import time
 
-PATIENCE = 60  # seconds that an answer may take
+PATIENCE = 180  # seconds that an answer may take
 
 
 def found():
