@@ -33,9 +33,14 @@ exit status: 0 nothing is wrong; 1 the transcript is refused; 2 an entry is wron
 5 input or output failed; 6 the program can't be built"""),
     "text": ("Prints the history, a block of lines for each entry, and the steps on remove locks and cancel slots.\n\n" + DRIVEN,
              "examples:\n  irp text my.transcript\n  irp text --entries 10..20 my.transcript\n\n" + VIEWED),
-    "page": ("Writes an HTML page to standard output: a card for each entry, and a picture of each way that a packet went;\n"
-             "of the entries that are chosen the first 2,000.\n\n" + DRIVEN,
-             "examples:\n  irp page my.transcript > page.html\n  irp page --packet 0.1 my.transcript > page.html\n\n" + VIEWED),
+    "page": ("Writes an HTML page: whether all is right, what happened at a glance, the faults, devices and packets, and each\n"
+             "entry with a picture of its packet's way and its stack locations.\n\n"
+             "Of a script's run it takes names from FILE.words, where that stands beside FILE.transcript. Of a run of drivers\n"
+             "in C it shows names, lines, threads and faults, too, from FILE.places beside FILE: they are the host's word, and\n"
+             "nobody judged it.\n\n"
+             "In a browser the arrows step from moment to moment; page.html#step=e13-1 is one moment in large type: the first\n"
+             "answer in entry 13.",
+             "examples:\n  irp page my.transcript -o page.html\n  irp page --packet 0.1 my.transcript > page.html\n\n" + VIEWED),
     "packet": ("Prints only the entries that name this use of a packet, such as 0.1, the first use of slot 0.\n\n" + DRIVEN,
                """examples:
   irp packet 0.1 my.transcript
@@ -131,6 +136,9 @@ def take_text(taken):
 def take_page(taken):
     add_entries(taken)
     taken.add_argument("--packet", type=packet, metavar="SLOT.USE", help="only the entries that name this use of a packet")
+    taken.add_argument("--names", metavar="SCRIPT", help="the script that was run, for its names")
+    taken.add_argument("--title", metavar="TEXT", help="the page's title, instead of the transcript's name")
+    taken.add_argument("-o", "--out", type=usage.new_file, metavar="PAGE", help="where the page goes, instead of standard output")
     add_file(taken)
 
 
@@ -169,10 +177,10 @@ WORDS = (
     Word("run", "run a script, in JSON or in words, and print its transcript", ("bin/irp_run", "run"), None),
     Word("check", "judge a transcript", ("bin/irp_run", "check"), None),
     Word("demo", "print the transcript of a small script", ("bin/irp_run", "demo"), None),
-    Word("why", "tell why a transcript isn't legal", ("bin/placed", "why"), take_why),
-    Word("text", "print a transcript as text", ("bin/placed", "text"), take_text),
-    Word("page", "draw a transcript as a page", ("bin/placed", "page"), take_page),
-    Word("packet", "print the way of one packet", ("bin/placed", "packet"), take_packet),
+    Word("why", "tell why a transcript isn't legal", ("page/list", "why"), take_why),
+    Word("text", "print a transcript as text", ("page/list", "text"), take_text),
+    Word("page", "draw a transcript as a page", ("page/draw",), take_page),
+    Word("packet", "print the way of one packet", ("page/list", "packet"), take_packet),
     Word("story", "tell a transcript to a program that draws it", ("bin/irp_view", "story"), take_story),
     Word("words", "turn a script in words into JSON and back, and find its faults", ("bin/irp_words",), take_words, TASKS),
     Word("orders", "tell how each order of a script's steps ends", ("bin/irp_orders",), take_orders),
@@ -228,6 +236,6 @@ def handed_on(word, words):
     flags = []
     for name, value in asked.items():
         if value is not None and value is not False:
-            flags += [f"--{name}", *([] if value is True else str(value).split(".") if name == "packet" else [str(value)])]
+            flags += [f"--{name}", *([] if value is True else [str(value)])]
     file = None if file == "-" else file
     return [*([task] if task else []), *(one.split(".") if one else []), *flags, *([file] if file else [])], file

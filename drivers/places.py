@@ -9,7 +9,7 @@ import host_files
 
 
 MOST_CALLS = 3  # so many of a chain are told
-ADDRESS = r"\+0x[0-9a-f]+ in [^\s,;:()]+"
+ADDRESS = r"\+0x[0-9a-f]+ in [^\s,;:()\"]+"
 
 
 def read_lines(program, addresses):

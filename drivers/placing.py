@@ -17,9 +17,9 @@ NO_COMPLAINT = None
 
 
 def reader():
-    """Returns bin/placed as a module."""
-    loader = importlib.machinery.SourceFileLoader("placed", os.path.dirname(HERE) + "/bin/placed")
-    module = importlib.util.module_from_spec(importlib.util.spec_from_loader("placed", loader))
+    """Returns page/record.py as a module."""
+    loader = importlib.machinery.SourceFileLoader("record", os.path.dirname(HERE) + "/page/record.py")
+    module = importlib.util.module_from_spec(importlib.util.spec_from_loader("record", loader))
     loader.exec_module(module)
     return module
 
@@ -57,7 +57,8 @@ def wrong_place(sources, place):
 def wrong_places(sources, path, transcript):
     """Returns what is wrong with a file of places, or None."""
     with open(path, encoding="utf-8") as it:
-        head, *entries = map(json.loads, it)
+        head, *lines = map(json.loads, it)
+    entries = [it for it in lines if "n" in it]
     with open(transcript, encoding="utf-8") as it:
         made = [it for it in map(json.loads, it.read().splitlines()[1:]) if "n" in it]
     shapes = [(it["n"], len(it["asked"])) for it in made]
@@ -78,7 +79,7 @@ def wrong_places(sources, path, transcript):
 
 def tests(bench):
     """Gives a complaint for each run whose names or lines are wrong."""
-    placed = reader()
+    record = reader()
     for name, args, seed in (("samples", "", None), ("samples", "60", 3), ("shapes", "all all 2 140", 5)):
         folder = bench.folder(f"places of {name}")
         program = bench.build(folder, [f"{HERE}/{name}"])
@@ -87,14 +88,14 @@ def tests(bench):
         yield f"places of {name} {args}", wrong
         if args:
             continue
-        found = placed.Places(run.transcript + ".places", run.transcript)
-        yield "the devices' drivers", NO_COMPLAINT if found.devices == ["bus", "toaster", "filter"] else found.devices
+        with open(run.transcript, "rb") as it:
+            text = it.read()
+        found = record.Record(run.transcript + ".places", text).head["devices"]
+        yield "the devices' drivers", NO_COMPLAINT if found == ["bus", "toaster", "filter"] else found
         said = places.with_lines("9 times (+0x1 in nowhere, called at +0x2 in none)", program)
         yield "a place without a line", NO_COMPLAINT if said == "9 times (in nowhere)" else said
-        with open(run.transcript, "a", encoding="utf-8") as it:
-            it.write("\n")
         try:
-            placed.Places(run.transcript + ".places", run.transcript)
+            record.Record(run.transcript + ".places", text + b"\n")
             yield "places of another transcript", "they are taken"
-        except placed.Unfit as why:
+        except record.Unfit as why:
             yield "places of another transcript", NO_COMPLAINT if "of another" in str(why) else str(why)

@@ -111,6 +111,7 @@ struct Entry {
     CallSite at;
     const void *under; /* the dispatch or routine that ran, or NULL */
     size_t number;
+    unsigned long began, order; /* when its call began, and when it got its number */
     Reply reply;
     uint64_t answer;
     const char *refused;
@@ -302,6 +303,7 @@ extern PDRIVER_OBJECT drivers[MAX_DRIVERS];
 extern Packet *packets[MAX_PACKETS];
 extern Entry **history;
 extern size_t n_history;
+extern unsigned long n_recorded; /* entries, steps on remove locks, switches and faults: the order of all of them */
 extern int n_devices, n_drivers, n_packets, n_live, n_seats, n_faults, n_notes, n_early, n_sends;
 extern uint64_t next_use;
 extern unsigned long host_activity; /* grows with each call, so that a wait sees whether anything goes on */

@@ -1,10 +1,11 @@
-"""Runs what a lesson shows, and takes the page of one packet's way apart: a moment for each entry."""
+"""Runs what a lesson shows, and has each entry of one packet's way drawn: a moment for each."""
 
 import collections
 import html
 import json
 import os
 import re
+import sys
 import tempfile
 
 import judging
@@ -14,34 +15,22 @@ import telling
 import texts
 
 TOP = telling.TOP
-ENTRY = re.compile(r'<li id="e(\d+)">(.*?)\n</li>', re.DOTALL)
-# What the manager would have answered: that is the lesson's answer.
-WHY = re.compile(r'<div class="why".*</div>(?=\s*(?:<p class="because">|$))', re.DOTALL)
-CALL = re.compile(r'<span class="call">(.*?)</span>(?:\s*<span class="(?:gives|no)">(.*?)</span>)?', re.DOTALL)
+sys.path += [TOP + "/page", TOP + "/bin"]
+import drawing  # noqa: E402 (the path is set above)
+import parts  # noqa: E402
+import whole  # noqa: E402
+
+READ = 3
 # One step of what is shown: its number, its call on one line, and its picture with what is told of it, as HTML.
 Moment = collections.namedtuple("Moment", "number call picture")
 # What is told of a lesson's file, what the moments show, these, and the style of their pictures.
 Shown = collections.namedtuple("Shown", "said name moments style")
 
 
-def moment_of(number, text):
-    """Returns the moment of one entry of a page."""
-    text = WHY.sub('<p class="no">The manager can’t have made this entry.</p>', re.sub(r'^<a class="n".*?</a>', "", text))
-    call = CALL.search(text)
-    return Moment(int(number), " ".join(it for it in call.groups("") if it) if call else text, text)
-
-
-def page_of(transcript, packet=None):
-    """Returns the page of a transcript."""
-    words = ["--packet", *packet.split(".")] if packet else []
-    status, said = judging.ended([f"{TOP}/bin/placed", "page", *words, transcript])
-    if status:
-        raise OSError(f"there is no page of {transcript}: {said.strip()}")
-    return said
-
-
-def style_of(page):
-    return re.search(r"<style>(.*?)</style>", page, re.DOTALL)[1]
+def history_of(path):
+    """Returns the history of a transcript."""
+    with open(path, "rb", buffering=0) as file:
+        return drawing.history_of(file, path)[0]
 
 
 def run(number, path):
@@ -66,19 +55,19 @@ def packet_before(path, number):
     return ".".join(map(str, found[-1])) if found else None
 
 
-def packet_of(said, path):
+def packet_of(said, path, history):
     """Returns the packet that the first fault names, else that of the entry before it, else that of the first read."""
     fault = next((it for it in said.splitlines() if "FAULT" in it), "")
     named, before = re.search(r"IRP (\d+\.\d+)", fault), re.search(r"\[before entry (\d+)\]", fault)
     if named:
         return named[1]
-    return before and packet_before(path, int(before[1])) or first_read(page_of(path))
+    return before and packet_before(path, int(before[1])) or first_read(history)
 
 
-def first_read(page):
-    """Returns the packet of the first read that an entry sends."""
-    named = re.search(r"IoGetNextIrpStackLocation\(IRP (\d+\.\d+)\): IRP_MJ_READ", page)
-    return named and named[1]
+def first_read(history):
+    """Returns the packet of the first read that an entry prepares."""
+    calls = (it["call"] for it in history.entries)
+    return next((".".join(map(str, it["irp"])) for it in calls if it["do"] == "set_next" and it["major"] == READ), None)
 
 
 def of_driver(number):
@@ -89,14 +78,15 @@ def of_driver(number):
         said = telling.told(said, 1)
         if not os.path.exists(path):
             return Shown(said, "", [], "")
-        packet = packet_of(of_run, path)
-        return by_page(said, f"IRP {packet}" if packet else "The history", page_of(path, packet), of_run)
+        history = history_of(path)
+        packet = packet_of(of_run, path, history)
+        return shown_of(said, f"IRP {packet}" if packet else "The history", history, packet, of_run)
 
 
 def of_history(number):
     """Returns the same of the lesson that has a history."""
     path = texts.files_of(number)[0]
-    return by_page(telling.told(judging.judge_history(path)[1], 4), "The history", page_of(path))
+    return shown_of(telling.told(judging.judge_history(path)[1], 4), "The history", history_of(path))
 
 
 def of_protocol(number):
@@ -131,7 +121,8 @@ def noted(moments, run):
     return moments
 
 
-def by_page(said, name, page, run=""):
-    """Returns what is told, with the moments of a page, in order, and what a run told behind one of them."""
-    found = [moment_of(*it) for it in ENTRY.findall(page.partition('<ol class="entries">')[2])]
-    return Shown(said, name, noted(found, run), style_of(page))
+def shown_of(said, name, history, packet=None, run=""):
+    """Returns what is told, with the moments of a packet or of all, in order, and what a run told behind one of them."""
+    use = tuple(map(int, packet.split("."))) if packet else None
+    found = [Moment(number, html.escape(call), shown) for number, call, shown in whole.moments(history, use)]
+    return Shown(said, name, noted(found, run), parts.text_of("page.css"))

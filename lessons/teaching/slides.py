@@ -13,7 +13,7 @@ STYLE = """
 :root { color-scheme: light; --ink: #1b1f24; --soft: #57606a; --edge: #d0d7de; --paper: #fff; --lane: #f3f5f8; --down: #0b5394;
   --up: #0a6b57; --wait: #8a5000; --waitfill: #fff4dc; --bad: #b3161c; --badfill: #fdecec; --keep: #6a2c9c; --keepfill: #f5ecfc;
   --good: #0a6b57; --goodfill: #e7f6f1 }
-html { font-size: min(2.05vw, 2.75vh); scroll-snap-type: y mandatory; }
+html { font-size: min(2.05vw, 2.75vh); scroll-snap-type: y mandatory; scroll-padding: 0; }
 body { max-width: none; margin: 0; padding: 0; font-size: 1rem; }
 .slide { position: relative; width: 100%; height: 100vh; padding: 1.6rem 2rem 2.6rem; overflow: hidden; scroll-snap-align: start; }
 .slide h1 { font-size: 1.7rem; margin: 0 0 .8rem; }

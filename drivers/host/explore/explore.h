@@ -58,6 +58,9 @@ extern bool by_snapshots;
 void go_back_if_any(void); /* a run has ended: where choices are left, doesn't return */
 void chain_handler(void (*handler)(int, siginfo_t *, void *)); /* of faults that aren't for snapshots */
 
+/* story.c */
+void add_switches(void); /* for the file beside the transcript */
+
 /* tracking.c */
 void *kept_apart(size_t size); /* zeros, in memory that isn't put back */
 

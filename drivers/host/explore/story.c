@@ -4,6 +4,8 @@
 
 typedef struct {
     const char *from, *to; /* threads by their names: a place may be another one's later */
+    int thread, other;
+    unsigned long order;
     bool preempts, early, waits, ends, is_decision;
     Place at, next;
 } Switch;
@@ -20,7 +22,8 @@ void remember_switch(const Choices *c, int to, const Place *next)
     if (chosen && first_chosen < 0)
         first_chosen = n_switches;
     switches[n_switches++] = (Switch){
-        .from = thread_name(c->current), .to = thread_name(to), .preempts = c->may_stay && to != c->current,
+        .from = thread_name(c->current), .to = thread_name(to), .thread = c->current, .other = to,
+        .order = n_recorded++, .preempts = c->may_stay && to != c->current,
         .early = is_early(c, to) && chosen, .waits = c->stop == AT_WAIT, .ends = c->stop == AT_END,
         .is_decision = chosen, .at = *c->place, .next = *next };
 }
@@ -37,6 +40,43 @@ static void put_place(FILE *out, const Place *p)
         fprintf(out, "+0x%lx in %s (%s)", place_in_program((const char *)p->pc - 1), function_name(p->pc), p->what);
     else
         fprintf(out, "%s%s%s", p->at.file ? place(p->at) : "", p->at.file ? ", " : "", p->what);
+}
+
+/* The place as a text, and the call there, for the file beside the transcript. */
+static void put_stop(FILE *out, const Place *p)
+{
+    char where[300];
+    const char *folder = p->at.file && is_hosts_file(p->at.file) ? "drivers/host/" : "";
+    if (p->pc)
+        snprintf(where, sizeof where, "+0x%lx in %s", place_in_program((const char *)p->pc - 1), function_name(p->pc));
+    else
+        snprintf(where, sizeof where, "%s%s", folder, p->at.file ? place(p->at) : "");
+    fputs("{\"call\":", out);
+    put_json_text(out, p->what);
+    fputs(",\"where\":", out);
+    put_json_text(out, where);
+    fputs("}", out);
+}
+
+static void put_switch_line(FILE *out, size_t i)
+{
+    const Switch *s = &switches[i];
+    fprintf(out, "{\"at\":");
+    put_stop(out, &s->at);
+    fprintf(out, ",\"early\":%s,\"is_decision\":%s,\"name\":", s->early ? "true" : "false", s->is_decision ? "true" : "false");
+    put_json_text(out, s->from);
+    fputs(",\"next\":", out);
+    put_stop(out, &s->next);
+    fprintf(out, ",\"switch\":\"%s\",\"thread\":%d,\"to\":%d,\"to_name\":",
+            s->preempts ? "preempted" : s->ends ? "ends" : s->waits ? "waits" : "yields", s->thread, s->other);
+    put_json_text(out, s->to);
+    fputs("}\n", out);
+}
+
+void add_switches(void)
+{
+    for (int i = 0; i < n_switches; i++)
+        add_line(switches[i].order, put_switch_line, (size_t)i);
 }
 
 static void put_next(FILE *out, const Switch *s, const char *then)

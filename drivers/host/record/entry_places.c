@@ -1,5 +1,5 @@
-/* entry_places.c: FILE.places, beside the transcript FILE: whose code made each entry, and in which line. docs/FORMATS.md has
-   its form. Nobody judges it. */
+/* entry_places.c: FILE.places, beside the transcript FILE: whose code made each entry and in which line, and what else
+   was recorded, in one order. docs/FORMATS.md has its form. Nobody judges it. */
 #include "record/own.h"
 #include "explore/explore.h"
 #include "ke/ke.h"
@@ -27,7 +27,7 @@ void decided_here(Asked *a)
 /* Who was asked decides by what it has done so far: the place is that of its last call. */
 void decided_by(Asked *a, const Frame *f) { a->at = (CallSite){ f->last, f->last_call }; }
 
-static void put_string(FILE *o, const char *text)
+void put_json_text(FILE *o, const char *text)
 {
     fputc('"', o);
     for (; *text; text++)
@@ -46,23 +46,23 @@ static void put_functions(FILE *o, void *const *table, int n)
     fputc('[', o);
     for (int i = 0; i < n; i++) {
         fputs(i ? "," : "", o);
-        put_string(o, function_name(table[i]));
+        put_json_text(o, function_name(table[i]));
     }
     fputc(']', o);
 }
 
 /* The call, its file, function and line; nothing where no driver or test made it. */
-static void put_place(FILE *o, const CallSite *at)
+void put_call_site(FILE *o, const CallSite *at)
 {
     if (!at->site.file || !at->call)
         return;
     const char *slash = strrchr(at->site.file, '/');
     fputs("\"call\":", o);
-    put_string(o, at->call);
+    put_json_text(o, at->call);
     fputs(",\"file\":", o);
-    put_string(o, slash ? slash + 1 : at->site.file);
+    put_json_text(o, slash ? slash + 1 : at->site.file);
     fputs(",\"function\":", o);
-    put_string(o, at->site.function);
+    put_json_text(o, at->site.function);
     fprintf(o, ",\"line\":%d", at->site.line);
 }
 
@@ -78,32 +78,68 @@ static const char *name_of(const void *address)
 
 static void put_caller(FILE *o, const Entry *e)
 {
-    put_place(o, &e->at);
+    put_call_site(o, &e->at);
     if (!e->at.site.file || !e->at.call)
         return;
     if (e->by_host)
         fputs(",\"by_host\":true", o);
     if (e->driver >= 0) {
         fputs(",\"driver\":", o);
-        put_string(o, drivers[e->driver]->HostName);
+        put_json_text(o, drivers[e->driver]->HostName);
     }
     if (e->under && strcmp(name_of(e->under), e->at.site.function) && *name_of(e->under) != '?') {
         fputs(",\"under\":", o);
-        put_string(o, name_of(e->under));
+        put_json_text(o, name_of(e->under));
     }
 }
 
-static void put_entry(FILE *o, const Entry *e)
+static void put_entry(FILE *o, size_t number)
 {
+    const Entry *e = history[number];
     fputs("{\"asked\":[", o);
     for (int i = 0; i < e->n; i++) {
         fputs(i ? ",{" : "{", o);
-        put_place(o, &e->asked[i].at);
+        put_call_site(o, &e->asked[i].at);
         fputs("}", o);
     }
-    fputs("],\"by\":{", o);
+    fprintf(o, "],\"began\":%lu,\"by\":{", e->began);
     put_caller(o, e);
-    fprintf(o, "},\"n\":%zu}\n", e->number);
+    fprintf(o, "},\"n\":%zu,\"order\":%lu}\n", e->number, e->order);
+}
+
+typedef struct { unsigned long order; void (*put_one)(FILE *o, size_t i); size_t i; } Line;
+static Line *lines;
+static size_t n_lines, lines_room;
+
+void add_line(unsigned long order, void (*put_one)(FILE *o, size_t i), size_t i)
+{
+    if (n_lines == lines_room) {
+        lines_room = lines_room ? 2 * lines_room : 1024;
+        lines = realloc(lines, lines_room * sizeof *lines);
+        if (!lines)
+            give_up("out of memory");
+    }
+    lines[n_lines++] = (Line){ order, put_one, i };
+}
+
+static int by_order(const void *a, const void *b)
+{
+    const Line *p = a, *q = b;
+    return p->order < q->order ? -1 : p->order > q->order;
+}
+
+/* All that is recorded, in one order. */
+static void put_lines(FILE *out, size_t n)
+{
+    n_lines = 0;
+    for (size_t i = 0; i < n; i++)
+        add_line(history[i]->order, put_entry, i);
+    add_words();
+    add_switches();
+    add_told();
+    qsort(lines, n_lines, sizeof *lines, by_order);
+    for (size_t i = 0; i < n_lines; i++)
+        lines[i].put_one(out, lines[i].i);
 }
 
 /* Which transcript it is, the devices' drivers, and the functions behind the numbers of its tables. */
@@ -119,7 +155,7 @@ static void put_head(FILE *o, size_t bytes, uint32_t crc, size_t n)
     fprintf(o, "],\"crc\":%u,\"devices\":[", crc);
     for (int i = 0; i < n_devices; i++) {
         fputs(i ? "," : "", o);
-        put_string(o, devices[i].driver->HostName);
+        put_json_text(o, devices[i].driver->HostName);
     }
     fputs("],\"dispatches\":", o);
     put_functions(o, ids.dispatches, ids.n_dispatches);
@@ -164,7 +200,6 @@ void write_places(const char *path, size_t n)
     if (!out)
         return;
     put_head(out, bytes, crc, n);
-    for (size_t i = 0; i < n; i++)
-        put_entry(out, history[i]);
+    put_lines(out, n);
     fclose(out);
 }

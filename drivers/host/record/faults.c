@@ -1,6 +1,6 @@
 /* faults.c: faults and notes, on what standard error was at the start: a driver may close it, or open another file as
    descriptor 2. */
-#include "record/record.h"
+#include "record/own.h"
 #include "explore/explore.h"
 #include "ke/ke.h"
 #include "mm/mm.h"
@@ -59,6 +59,9 @@ void say(const char *how, ...)
     va_end(list);
     if (n > (int)sizeof text - 2)
         n = (int)sizeof text - 2;
+    text[n] = 0;
+    if (!strncmp(how, "  ", 2))
+        remember_told(&(Telling){ "detail", text + strlen("host:   "), NULL, NULL, NULL, NULL, NULL });
     text[n++] = '\n';
     write_error(text, (size_t)n);
 }
@@ -183,6 +186,7 @@ const char *what_runs(const Frame *f)
 /* Whether this fault was told before at this place. Where it wasn't, it is remembered. */
 static struct { const char *rule, *file; const void *fn; int line, times; } told[256];
 static int n_told;
+static const int *times_of_last; /* that was told first */
 
 static bool was_told(const char *rule, WDM_SITE at, const void *fn)
 {
@@ -191,6 +195,7 @@ static bool was_told(const char *rule, WDM_SITE at, const void *fn)
             told[i].times++;
             return true;
         }
+    times_of_last = n_told < 256 ? &told[n_told].times : NULL;
     if (n_told < 256) {
         told[n_told].rule = rule, told[n_told].file = at.file, told[n_told].line = at.line, told[n_told].fn = fn;
         told[n_told++].times = 1;
@@ -229,6 +234,7 @@ static void tell(const char *rule, const Packet *p, const char *where, const cha
     char first[1600];
     snprintf(first, sizeof first, "%s: %s%s: %s", rule, where, irp, text);
     note_fault(first);
+    remember_told(&(Telling){ "fault", rule, known, where, text, p, times_of_last });
 }
 
 void fault(const char *rule, const Packet *p, const char *how, ...)
@@ -310,4 +316,5 @@ void note(const char *key, const char *how, ...)
     if (n < 64)
         told_notes[n++] = strdup(text);
     say("note, %s: %s", key, text);
+    remember_told(&(Telling){ "note", key, NULL, NULL, text, NULL, NULL });
 }

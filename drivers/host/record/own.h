@@ -13,6 +13,15 @@ typedef struct {
 /* entry_places.c */
 void begun_here(Entry *e);
 
+/* told_lines.c: what the host told: a fault, a note, or a line of what it tells of a run that stands still. */
+typedef struct {
+    const char *kind, *name, *known, *where, *said; /* known: of a fault, how others know it, or NULL */
+    const Packet *p;
+    const int *times;
+} Telling;
+void remember_told(const Telling *t);
+void add_told(void);
+
 /* hangs.c */
 const char *packet_at(int device);
 
@@ -27,5 +36,6 @@ void watch_for_jumps_and_forks(void);
 /* transcript.c */
 extern Ids ids;
 const char *op_name(Op op);
+void add_words(void);
 
 #endif

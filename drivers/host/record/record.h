@@ -15,6 +15,9 @@ int where_is(bool in_handler, const void **at, int most);
 void decided_here(Asked *a);
 void decided_by(Asked *a, const Frame *f);
 void write_places(const char *path, size_t n);
+void add_line(unsigned long order, void (*put_one)(FILE *o, size_t i), size_t i); /* of that file, where its order says */
+void put_json_text(FILE *o, const char *text);
+void put_call_site(FILE *o, const CallSite *at);
 
 /* faults.c */
 void be_silent(void);

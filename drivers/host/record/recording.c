@@ -5,6 +5,7 @@
 
 Entry **history;
 size_t n_history;
+unsigned long n_recorded;
 int n_sends;
 static size_t room;
 
@@ -26,7 +27,8 @@ Entry *begin(Op op, Packet *p, int by)
     Entry *e = calloc(1, sizeof *e);
     if (!e)
         give_up("out of memory");
-    *e = (Entry){ .op = op, .seat = self.seat, .by = by, .p = p, .slot = p ? p->slot : 0, .use = p ? p->use : 0, .driver = NOBODY };
+    *e = (Entry){ .op = op, .seat = self.seat, .by = by, .p = p, .slot = p ? p->slot : 0, .use = p ? p->use : 0, .driver = NOBODY,
+        .began = n_recorded };
     begun_here(e);
     return e;
 }
@@ -46,6 +48,7 @@ static void number(Entry *e, bool cancel)
     e->cancel = cancel;
     e->numbered = true;
     e->number = n_history;
+    e->order = n_recorded++;
     history[n_history++] = e;
 }
 

@@ -7,7 +7,7 @@ _Static_assert((int)DISPATCH == IRPX_DISPATCH && (int)CANCELLING == IRPX_CANCELL
 _Static_assert((int)UNKNOWN == IRPX_UNDECIDED && (int)LEAVE == IRPX_LEAVE, "plans in one order");
 _Static_assert((int)NONE_YET == IRPX_NONE_YET && (int)REFUSED == IRPX_REFUSED, "replies in one order");
 
-typedef struct { int seat, lock, to; const char *act, *reply; uint64_t tag; unsigned step; } Word;
+typedef struct { int seat, lock, to; const char *act, *reply; uint64_t tag; unsigned step; unsigned long order; CallSite at; } Word;
 
 Ids ids;
 static unsigned char finishes[MAX_IDS], leaves[MAX_IDS];
@@ -27,7 +27,8 @@ void record_word(const char *act, int lock, PVOID tag, const char *reply, int by
         if (!words)
             give_up("out of memory");
     }
-    words[n_words] = (Word){ by, lock, to, act, reply, (uint32_t)number_of(tag), (unsigned)n_words };
+    const CallSite at = self.calls ? (CallSite){ self.calls->at, self.calls->name } : (CallSite){ { 0 }, NULL };
+    words[n_words] = (Word){ by, lock, to, act, reply, (uint32_t)number_of(tag), (unsigned)n_words, n_recorded++, at };
     n_words++;
 }
 
@@ -152,6 +153,20 @@ static void put_words(Text *t)
         for (size_t i = 0; i < n_words; i++)
             if (words[i].seat == s)
                 put_word(t, &words[i]);
+}
+
+/* For the file beside the transcript: where a step was made. */
+static void put_word_place(FILE *o, size_t i)
+{
+    fprintf(o, "{\"by\":{");
+    put_call_site(o, &words[i].at);
+    fprintf(o, "},\"step\":%u}\n", words[i].step);
+}
+
+void add_words(void)
+{
+    for (size_t i = 0; i < n_words; i++)
+        add_line(words[i].order, put_word_place, i);
 }
 
 static int dispatch_for(int driver, int major)
