@@ -13,10 +13,10 @@
  *   ob/       objects, handles, names, security, registry
  *   rtl/      text, printing, tracing, GUIDs, routines by name
  *   win32/    the calls of Win32 that tests of Wine's make
- *   record/   entries and the transcript, the files beside it; faults and last words, and the names in them
+ *   record/   entries and the transcript, the files beside it; faults and their names; how a run ends
  *   rules/    what docs/RULES.md refuses, and what Driver Verifier checks
  *   explore/  schedules, the explorer, snapshots, races
- *   test/     what stands for programs and other drivers: requests, situations, bottoms, cancels, the end of a test
+ *   test/     what stands for programs and other drivers: requests, situations, bottoms, cancels; what runs came to
  *
  * LOCKING ORDER. From the outside in; nothing takes a lock that stands above one that it holds.
  *   1. the cancel spin lock (cancelling.c), which a driver may hold across calls of the host;
