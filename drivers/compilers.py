@@ -19,7 +19,7 @@ def by_clang(flags):
         print("skipped: there is no clang here", flush=True)
         return
     sources = sorted(glob.glob(HERE + "/host/**/*.c", recursive=True))
-    said = "".join(warned(["clang", *flags], it) for it in sources)
+    said = "".join(warned(["clang", *flags, f"-I{HERE}/host", f"-I{HERE}"], it) for it in sources)
     yield f"clang compiles the host, {len(sources)} files", said[:900] or None
 
 
