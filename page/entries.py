@@ -102,11 +102,12 @@ class Rows:
 
     def step(self, number, more=""):
         """Returns a step on a remove lock or a cancel slot."""
-        row, step = ("step", number), self.history.steps[number]
+        history, row, step = self.history, ("step", number), self.history.steps[number]
         text, gives = self.words.step(step)
         bad, seat = self.history.is_bad(row), self.history.seat_of(row)
         said = part("gives", css="no" if bad else "gives", text=gives) if gives else ""
-        return part("step_row", number=number, seat=seat, bad=Html(" data-bad=1" if bad else ""), lane=self.lane(seat), call=text, gives=said,
+        use = history.packet_of_step.get(number)
+        return part("step_row", number=number, use=packets.name_of(use) if use else "", seat=seat, bad=Html(" data-bad=1" if bad else ""), lane=self.lane(seat), call=text, gives=said,
                     place=self.place(self.history.by(row)), body=joined([self.faults(row), more]))
 
     def entry(self, number, more=""):

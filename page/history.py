@@ -61,6 +61,7 @@ class History:
             self.facts.append(self.follow(number, Fact(told)))
         self.words = wording.Words(self.names, {lock: its[0] for lock, its in self.locks.items() if len(its) == 1})
         self.rows, self.apart = self.all_rows(script)
+        self.packet_of_step = self.packets_of_steps()
         self.faults = host.faults if host else []
         self.faults_of = defaultdict(list)
         for fault in self.faults:
@@ -117,6 +118,16 @@ class History:
             before[place].append(("step", step))
         rows = [row for n in range(len(self.entries) + 1) for row in (*before[n], ("entry", n))]
         return rows[:-1], [it for it in sorted(self.steps) if it not in places]
+
+    def packets_of_steps(self):
+        """Returns for steps on remove locks the packet that the tag stands for, where the host tells it."""
+        tagged, found = {}, {}
+        for kind, at in self.rows if self.host else []:
+            if kind == "step" and "tag" in self.steps[at]:
+                key = self.steps[at]["lock"], self.steps[at]["tag"]
+                tagged[key] = self.host.packets.get(at, tagged.get(key) if self.steps[at]["do"] != "acquire" else None)
+                found[at] = tagged[key]
+        return {at: packet for at, packet in found.items() if packet}
 
     def by(self, row):
         """Returns where a row's call was made, as the host tells it."""

@@ -2,6 +2,7 @@
 
 from collections import defaultdict
 
+import strip
 from parts import Html, counted, joined, part
 from tables import NO_USE, WINDOWS, is_success, kind_of, major, status
 
@@ -109,8 +110,10 @@ def cell(its):
 
 
 def named_by(history):
-    """Returns the packets that faults are about, and those of entries with something wrong."""
+    """Returns the packets that faults are about, those of entries with something wrong, and those under whose tags a remove
+    lock is still held."""
     found = {it.packet for it in history.faults}
+    found |= {it.packet for it in strip.references_of(history) if it.stays}
     return found | {history.facts[n].use for n in range(len(history.entries)) if history.is_bad(("entry", n))}
 
 

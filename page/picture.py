@@ -30,7 +30,8 @@ class Picture:
     def __init__(self, words, fact, entry, outcome, mark, wrong=None):
         self.words, self.fact, self.entry, self.outcome, self.mark, self.wrong = words, fact, entry, outcome, mark, wrong
         self.by_party = "by" in entry["call"]
-        comes_back = any("completion" in it and it["shown"][0] is None for it in entry["asked"])
+        # Above the originator's own routine there is a row where the packet completes.
+        comes_back = outcome[0] == "completed" and any("completion" in it and it["shown"][0] is None for it in entry["asked"])
         self.head = 1 if not self.by_party or comes_back else 0
         self.pieces, self.last = [], None  # last: the top of the last box, and whether it is on the way up
 

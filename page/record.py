@@ -26,8 +26,10 @@ class Record:
                 self.head, *lines = map(json.loads, it)
             if (self.head["bytes"], self.head["crc"]) != (len(text), zlib.crc32(text)):
                 raise Unfit("is of another transcript")
+            for it in ("devices", "dispatches", "cancels", "completions"):
+                list(self.head[it])
             self.entries, self.steps, self.faults, self.switches, self.notes, self.details = {}, {}, [], [], [], []
-            self.rows, self.threads, self.run, self.sources = [], {}, {}, {}
+            self.rows, self.threads, self.run, self.sources, self.packets = [], {}, {}, {}, {}
             for line in lines:
                 self.take(line)
         except (OSError, ValueError, KeyError, TypeError, AttributeError) as why:
@@ -38,11 +40,15 @@ class Record:
 
     def take(self, line):
         """Takes one line."""
+        for by in (line.get("by", {}), *line.get("asked", [])):
+            checked(by)
         if "n" in line:
             self.entries[line["n"]] = line
             self.rows.append(("entry", line["n"]))
         elif "step" in line:
             self.steps[line["step"]] = line["by"]
+            if "packet" in line:
+                self.packets[line["step"]] = tuple(line["packet"])
             self.rows.append(("step", line["step"]))
         elif "fault" in line:
             self.rows.append(("fault", len(self.faults)))
@@ -94,6 +100,11 @@ class Record:
             if row[0] != "fault" and call_of(self.by(row)) == wanted:
                 return row
         return None
+
+
+def checked(by):
+    """Whether a place has what it needs, else an exception tells it."""
+    return not by or (by["file"], by["function"], int(by["line"]), by["call"])
 
 
 def call_of(by):

@@ -25,8 +25,8 @@ class Rows:
 class Reference:
     """A reference of a remove lock: from which entry to which, and whether it was never given back."""
 
-    def __init__(self, lock, tag, start, end, stays):
-        self.lock, self.tag, self.start, self.end, self.stays = lock, tag, start, end, stays
+    def __init__(self, lock, tag, start, end, packet=None):
+        self.lock, self.tag, self.start, self.end, self.packet, self.stays = lock, tag, start, end, packet, end is None
 
 
 def references_of(history):
@@ -39,11 +39,11 @@ def references_of(history):
             step = history.steps[at]
             its = held.setdefault((step["lock"], step.get("tag")), [])
             if step["do"] == "acquire" and step["reply"] == {"status": 0}:
-                its.append(entry)
+                its.append((entry, history.packet_of_step.get(at)))
             elif step["do"] in ("release", "begin_remove") and step["reply"] == "ok" and its:
-                found.append(Reference(step["lock"], step["tag"], its.pop(), entry, False))
-    last = len(history.entries)
-    found += [Reference(lock, tag, start, last, True) for (lock, tag), its in held.items() for start in its]
+                start, packet = its.pop()
+                found.append(Reference(step["lock"], step["tag"], start, entry, packet))
+    found += [Reference(lock, tag, start, None, packet) for (lock, tag), its in held.items() for start, packet in its]
     return sorted((it for it in found if it.stays or it.end - it.start > FEW), key=lambda it: it.start)
 
 
@@ -107,7 +107,8 @@ class Strip:
         """Puts references of remove locks. Returns whether one was never given back, or None where there are none."""
         rows, labelled, references = Rows(), set(), references_of(self.history)
         for it in references:
-            row = rows.place(it.start, it.end)
+            last = self.count if it.stays else it.end
+            row = rows.place(it.start, last)
             y = self.low + 6 + row * 10
             if row >= MOST_LOCKS:
                 continue
@@ -115,8 +116,9 @@ class Strip:
                 labelled.add(it.lock)
                 self.labels.append(part("strip_label", at=f"{it.start / self.count:.4f}", y=y, text=self.device(it.lock)))
             end = "never given back" if it.stays else f"given back before entry {it.end}"
-            title = f"{self.history.words.lock(it.lock)}, tag {it.tag}: taken before entry {it.start}, {end}"
-            self.bar(f"e{min(it.start, self.count - 1)}", "bad" if it.stays else "lock", title, it.start, it.end, y, 6, 2)
+            of = f" ({self.history.words.packet(it.packet)})" if it.packet else ""
+            title = f"{self.history.words.lock(it.lock)}, tag {it.tag}{of}: taken before entry {it.start}, {end}"
+            self.bar(f"e{min(it.start, self.count - 1)}", "bad" if it.stays else "lock", title, it.start, last, y, 6, 2)
         if references:
             self.names.append(part("strip_name", y=self.low + 3, text="locks"))
         self.low += 8 + min(len(rows.ends), MOST_LOCKS) * 10

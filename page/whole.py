@@ -35,10 +35,12 @@ class Chosen:
         return rows
 
     def is_of_packet(self, history, row):
-        """Whether a row is about the packet: an entry, or a fault that is told of it."""
+        """Whether a row is about the packet: an entry, a step under its tag, or a fault that is told of it."""
         kind, at = row
         if kind == "entry":
             return history.facts[at].use == self.packet
+        if kind == "step":
+            return history.packet_of_step.get(at) == self.packet
         return kind == "fault" and history.faults[at].packet == self.packet
 
 
@@ -59,7 +61,7 @@ class Page:
         """Returns each section with its mark and name; what there is nothing of is empty."""
         history, whole = self.history, not self.only and not self.chosen.span
         threads = lanes.Lanes(history, self.is_long) if whole else None
-        faults = [it for it in history.faults if not self.only or it.packet == self.only]
+        faults = [it for it in history.faults if not self.only or it.packet == self.only or self.is_named(it)]
         used = None
         if self.only:
             used = {it for n in history.packets[self.only].entries for it in history.facts[n].devices}
@@ -70,6 +72,10 @@ class Page:
                 ("packets", "Packets", packets.html(history, self.seats, self.only)),
                 ("entries", "Entries", self.entries()),
                 ("key", "How to read this", self.key())]
+
+    def is_named(self, fault):
+        """Whether a fault's text names the packet that the page shows alone."""
+        return re.search(rf"\bIRP {self.only[0]}\.{self.only[1]}\b", fault.said) is not None
 
     def entries(self):
         """Returns the section of the entries, and of steps whose place isn't known."""

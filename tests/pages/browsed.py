@@ -67,7 +67,8 @@ def sizes(bench, name, path):
     window.sized(1280, 800)
 
 
-def paper(bench, name):
+def paper(bench, name, path):
+    bench.window.open(path)
     text = bench.window.printed()
     sheets = len(re.findall(rb"/Type\s*/Page\b", text))
     bench.meets(f"{name}: {sheets} sheets of paper", 0 < sheets <= SHEETS.get(name, 60))
@@ -133,7 +134,7 @@ def moments(bench):
     bench.asks("a moment in large type", "document.body.classList.contains('large')")
     bench.asks("it shows its picture", "document.querySelectorAll('#panel svg').length", 1)
     bench.asks("its step is marked in the picture", "document.querySelector('#panel svg .now').getAttribute('href')", "#e5-2")
-    bench.asks("it shows where the packet is", "document.querySelector('#panel .stack tr:has(.on:not(:empty)) th').textContent +"
+    bench.asks("it shows where the packet is", "document.querySelector('#panel .stack tbody tr:has(.on:not(:empty)) th').textContent +"
                "[...document.querySelectorAll('#panel .stack tbody .on')].map(it => it.textContent).join('')", "1●")
     bench.asks("nothing is wider", WIDER, False)
     bench.pressed("the arrow steps on", "ArrowRight", "#step=e5-3")
@@ -168,6 +169,11 @@ def choices(bench):
     bench.asks("a link into a block opens it", "!!document.querySelector(location.hash).offsetHeight")
 
 
+def busy():
+    """Returns how many times as long something takes, since other programs run."""
+    return max(1, os.getloadavg()[0] / os.cpu_count())
+
+
 def large(bench, folder):
     """Pages of many entries: their bytes, and how long they take to open."""
     for count, (most_bytes, most_seconds) in SIZES.items():
@@ -177,7 +183,7 @@ def large(bench, folder):
         size = os.path.getsize(path + ".html")
         seconds = min(bench.window.open(path + ".html") for _ in range(3))
         bench.meets(f"{count} entries: {size} bytes", size <= most_bytes)
-        bench.meets(f"{count} entries: {seconds:.1f} s to open", seconds <= most_seconds)
+        bench.meets(f"{count} entries: {seconds:.1f} s to open", seconds <= most_seconds * busy())
         bench.asks(f"{count} entries: nothing is wider", WIDER, False)
         bench.meets(f"{count} entries: nothing is told", not bench.window.complaints())
 
@@ -188,7 +194,7 @@ def main():
         bench = Bench(window, made or ten.make(folder))
         for name, path in bench.pages.items():
             sizes(bench, name, path)
-            paper(bench, name)
+            paper(bench, name, path)
             names_and_focus(bench, name)
             without_script(bench, name, path)
         for it in (keys, moments, choices):

@@ -128,12 +128,12 @@ class Browser:
         asked = [it["params"]["request"]["url"] for it in self.events if it.get("method") == "Network.requestWillBeSent"]
         return [json.dumps(it["params"])[:300] for it in said] + [it for it in asked[1:] if it != "about:blank"]
 
-    def picture(self, path, height=None):
-        """Writes what the window shows, or the page's first so many pixels, as a picture."""
+    def picture(self, path, height=None, top=0):
+        """Writes what the window shows, or so many pixels of the page, as a picture."""
         more = {}
         if height:
             width = self.value("innerWidth")
-            more = {"captureBeyondViewport": True, "clip": {"x": 0, "y": 0, "width": width, "height": height, "scale": 1}}
+            more = {"captureBeyondViewport": True, "clip": {"x": 0, "y": top, "width": width, "height": height, "scale": 1}}
         with open(path, "wb") as out:
             out.write(base64.b64decode(self.ask("Page.captureScreenshot", format="png", **more)["data"]))
 

@@ -7,7 +7,7 @@ import subprocess
 
 HERE = os.path.dirname(os.path.abspath(__file__))
 TOP = os.path.dirname(os.path.dirname(HERE))
-EXAMPLES = TOP + "/examples"
+EXAMPLES = "examples"
 SLOT = EXAMPLES + "/slots/a_canceller_takes_a_packet_from_its_slot.words"
 
 
@@ -18,7 +18,7 @@ class Unmade(Exception):
 def irp(*words, out=None, ends=(0,)):
     """Runs irp. Returns what it printed."""
     made = subprocess.run([TOP + "/bin/irp", *words], stdout=out or subprocess.PIPE, stderr=subprocess.PIPE, text=True,
-                          check=False)
+                          check=False, cwd=TOP)
     if made.returncode not in ends:
         raise Unmade(f"irp {' '.join(words)}: {(made.stderr or made.stdout or '')[-600:]}")
     return made.stdout
@@ -71,19 +71,20 @@ TEN = {
     "two_devices": of_transcript(EXAMPLES + "/practice/two_devices.transcript", "--title", "Two devices"),
     "an_entry_that_is_wrong": of_transcript(EXAMPLES + "/why/shown_the_location_below_a_skip.transcript", "--title",
                                             "An entry that no manager makes"),
-    "the_status_is_read_once": of_transcript(HERE + "/mend_on_error.transcript", "--title", "Wine 8.0: mend_on_error"),
+    "the_status_is_read_once": of_transcript("tests/pages/mend_on_error.transcript", "--title", "Wine 8.0: mend_on_error"),
     "an_order_with_a_slot": of_order,
-    "two_stacks": of_words(HERE + "/two_stacks.words", "Thirty-two devices"),
-    "a_race": of_drivers("--every-order", "--scenario", "overlap", TOP + "/drivers/races/untested/pends.c"),
-    "a_removal": of_drivers(TOP + "/drivers/stacks/removal.c"),
-    "a_deadlock": of_drivers("--patience", "2", TOP + "/drivers/hostile/takes_two_mutexes.c"),
-    "lesson_8": of_drivers(TOP + "/lessons/08_remove_locks/driver.c"),
+    "two_stacks": of_words("tests/pages/two_stacks.words", "Thirty-two devices"),
+    "a_race": of_drivers("--every-order", "--scenario", "overlap", "drivers/races/untested/pends.c"),
+    "a_removal": of_drivers("drivers/stacks/removal.c"),
+    "a_deadlock": of_drivers("--patience", "2", "drivers/hostile/takes_two_mutexes.c"),
+    "lesson_8": of_drivers("lessons/08_remove_locks/driver.c"),
     "one_packet": of_packet,
 }
 
 
 def make(folder):
     """Makes all pages in a folder. Returns their paths by their names."""
+    folder = os.path.abspath(folder)
     os.makedirs(folder, exist_ok=True)
     for name, made in TEN.items():
         made(f"{folder}/{name}.html")

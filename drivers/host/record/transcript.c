@@ -7,7 +7,9 @@ _Static_assert((int)DISPATCH == IRPX_DISPATCH && (int)CANCELLING == IRPX_CANCELL
 _Static_assert((int)UNKNOWN == IRPX_UNDECIDED && (int)LEAVE == IRPX_LEAVE, "plans in one order");
 _Static_assert((int)NONE_YET == IRPX_NONE_YET && (int)REFUSED == IRPX_REFUSED, "replies in one order");
 
-typedef struct { int seat, lock, to; const char *act, *reply; uint64_t tag; unsigned step; unsigned long order; CallSite at; } Word;
+typedef struct { int seat, lock, to; const char *act, *reply; uint64_t tag; unsigned step; unsigned long order; CallSite at;
+    const Packet *p; uint64_t use; /* the packet that the tag is, where its dispatch or routine runs */
+} Word;
 
 Ids ids;
 static unsigned char finishes[MAX_IDS], leaves[MAX_IDS];
@@ -27,8 +29,10 @@ void record_word(const char *act, int lock, PVOID tag, const char *reply, int by
         if (!words)
             give_up("out of memory");
     }
+    const Frame *f = self.frames;
     const CallSite at = self.calls ? (CallSite){ self.calls->at, self.calls->name } : (CallSite){ { 0 }, NULL };
-    words[n_words] = (Word){ by, lock, to, act, reply, (uint32_t)number_of(tag), (unsigned)n_words, n_recorded++, at };
+    words[n_words] = (Word){ by, lock, to, act, reply, (uint32_t)number_of(tag), (unsigned)n_words, n_recorded++, at,
+        f && f->p && (PVOID)f->p->irp == tag ? f->p : NULL, f ? f->use : 0 };
     n_words++;
 }
 
@@ -160,7 +164,10 @@ static void put_word_place(FILE *o, size_t i)
 {
     fprintf(o, "{\"by\":{");
     put_call_site(o, &words[i].at);
-    fprintf(o, "},\"step\":%u}\n", words[i].step);
+    fputs("}", o);
+    if (words[i].p)
+        fprintf(o, ",\"packet\":[%u,%lu]", words[i].p->slot, (unsigned long)words[i].use);
+    fprintf(o, ",\"step\":%u}\n", words[i].step);
 }
 
 void add_words(void)

@@ -1,7 +1,6 @@
 #!/bin/bash
-# Shows that `bin/placed`, and so `irp text`, `page`, `packet` and `why`, puts names and lines from a file of places beside
-# entries and answers, escapes them in a page, and that a file that is short, spoiled or of another transcript is told and
-# left out. IRP_VIEW names irp_view; without it, it is the one that bin/irp_view runs.
+# Shows that `irp text`, `page`, `packet` and `why` put names and lines from the host's record beside entries and answers, that
+# a page has them escaped, and that a record that is short, spoiled or of another transcript is told and left out. IRP_VIEW names irp_view; without it, it is the one that bin/irp_view runs.
 # Each failure has a line of its own. Ends with status 0 where all was as expected, else with 1.
 set -u
 cd "$(dirname "$(readlink -f "$0")")" || exit 1
@@ -60,16 +59,11 @@ meets 'where there is no place there is none' grep -qE '^ +0  .* -> D0 \[bus <&>
 ../bin/irp packet 0 1 --entries "$entry..$sent" "$kept" >"$room/packet"
 meets 'one packet' grep -qF "c.c:$entry in F<i>" "$room/packet"
 
-"$IRP_VIEW" page "$kept" >"$room/wanted"
 ../bin/irp page "$kept" >"$room/page.html"
-meets 'a page is valid' python3 pages.py "$room/page.html" >/dev/null
-meets 'its names are escaped' grep -qF 'D0 [bus &lt;&amp;&gt;]' "$room/page.html"
-meets 'its lines are escaped' grep -qF "[a&lt;b&gt;&amp;\"c.c:$entry in F&lt;i&gt;, other]</span>" "$room/page.html"
-meets 'each answer has its line' [ "$(grep -oE 'c\.c:[0-9]{4,} in' "$room/page.html" | sort -u | wc -l)" -eq \
+meets 'a page has its names, escaped' grep -qF 'D0 bus &lt;&amp;&gt;' "$room/page.html"
+meets 'a page has its lines, escaped' grep -qF "a&lt;b&gt;&amp;&quot;c.c:$entry in F&lt;i&gt;" "$room/page.html"
+meets 'a page has each answer'\''s line' [ "$(grep -oE 'c\.c:[0-9]{4,} in' "$room/page.html" | sort -u | wc -l)" -eq \
     "$(grep -oE 'c\.c:[0-9]{4,} in' "$room/text" | sort -u | wc -l)" ]
-meets 'no name is in a link or a mark' cmp -s <(grep -oE '(href|id|aria-label|d|x|y)="[^"]*"' "$room/wanted" | sort -u) \
-    <(grep -vE '^<text class="small soft" x="6"' "$room/page.html" | grep -oE '(href|id|aria-label|d|x)="[^"]*"|y="[0-9]+"' |
-        sort -u | grep -Fxf <(grep -oE '(href|id|aria-label|d|x|y)="[^"]*"' "$room/wanted" | sort -u))
 
 why=$room/why.transcript
 cp ../examples/why/completed_twice.transcript "$why"
@@ -81,17 +75,21 @@ meets 'the wrong entry has its line' grep -qE '^entry 5 \(line 7\): .* \[by IoCa
 # Checks that the places as they stand are told as $1 and left out: in text, page and why.
 is_left_out() {
     local word
-    for word in text page why; do
+    for word in text why; do
         "$IRP_VIEW" "$word" "$why" >"$room/wanted"
         ../bin/irp "$word" "$why" >"$room/text" 2>"$room/told"
         meets "$word: $1: its status" [ $? -eq "$([ $word = why ] && echo 2 || echo 0)" ]
         meets "$word: $1: it is irp_view's" cmp -s "$room/wanted" "$room/text"
         meets "$word: $1: it is told" [ "$(cat "$room/told")" = \
-            "why.transcript.places $1: names and lines of drivers are left out" ]
+            "why.transcript.places $1: names, lines and faults of drivers are left out" ]
     done
+    ../bin/irp page "$why" >"$room/page.html" 2>"$room/told"
+    meets "page: $1: it is as without a record" cmp -s "$room/plain.html" "$room/page.html"
+    meets "page: $1: it is told" grep -q "places $1" "$room/told"
 }
 
 mv "$why.places" "$room/right"
+../bin/irp page "$why" >"$room/plain.html"
 meets 'without a file of places all is irp_view'\''s' cmp -s <("$IRP_VIEW" text "$why" 2>&1) <(../bin/irp text "$why" 2>&1)
 head -n -1 "$room/right" >"$why.places"
 is_left_out 'ends early'
