@@ -45,6 +45,7 @@ exit status: 0 nothing is wrong; 1 the transcript is refused; 2 an entry is wron
                """examples:
   irp packet 0.1 my.transcript
   irp packet 0.1 --entries 10..20 my.transcript
+  irp packet 0.1 --mermaid my.transcript > way.mmd
 
 exit status: 0 done; 1 the transcript is refused; 2 no entry names the packet; 3 out of memory; 4 other words; 5 input or
 output failed; 6 the program can't be built"""),
@@ -144,6 +145,7 @@ def take_page(taken):
 
 def take_packet(taken):
     taken.add_argument("packet", type=packet, metavar="SLOT.USE", help="the use of a packet; SLOT USE is taken as well")
+    taken.add_argument("--mermaid", action="store_true", help="its way as a sequence diagram in mermaid's language")
     add_entries(taken)
     add_file(taken)
 

@@ -6,8 +6,11 @@ import re
 import subprocess
 import sys
 
+import drawing
 import irp_reading
+import mermaid
 import record
+import story as stories
 import words as wording
 from tables import RULES
 
@@ -93,9 +96,28 @@ def shown(view, words, text, host, name):
     return made.returncode
 
 
+def diagram(text, file, slot, use):
+    """Prints one packet's way in mermaid's language. Returns the exit status."""
+    try:
+        history, told = drawing.history_of(text, file)
+    except stories.Untold as why:
+        print(why, file=sys.stderr)
+        return why.status
+    packet = int(slot), int(use)
+    if packet not in history.packets:
+        print(f"irp packet: no entry names IRP {slot}.{use}", file=sys.stderr)
+        return NO_PACKET
+    if told:
+        print(told, file=sys.stderr)
+    sys.stdout.write(mermaid.Diagram(history, packet).text())
+    return 0
+
+
 def run(view, words, file):
     """Does what a word of irp says with a transcript. Returns the exit status."""
     text = irp_reading.transcript(words[0], file)
+    if "--mermaid" in words:
+        return diagram(text, file, *words[1:3])
     host, told = record.read(file, text.read())
     if told:
         print(told, file=sys.stderr)

@@ -25,11 +25,11 @@ COMPLETIONS = {"bash": "share/bash-completion/completions/irp", "zsh": "share/zs
 def scripts():
     """Returns the scripts of an installed tree, and the modules that they import, and those that these import."""
     found = [it for it in repository.files() if it in ("drivers/run", "lessons/check", "lessons/grade", "lessons/slides")
-             or it.startswith("bin/") and it.count("/") == 1 and it not in OURS
+             or it.startswith("bin/") and it.count("/") == 1 and it not in OURS or it.startswith("page/")
              or it.startswith("tests/player/") and not it.endswith(("/test.py", ".md"))]
     for path in found:  # which grows meanwhile
         for name in re.findall(r"(?m)^(?:import|from) (\w+)", bytes_of(path).decode()):
-            found += [it for it in (f"drivers/{name}.py", f"bin/{name}.py") if it in repository.files() and it not in found]
+            found += [it for it in (f"drivers/{name}.py", f"bin/{name}.py", f"page/{name}.py") if it in repository.files() and it not in found]
     return set(found)
 
 
