@@ -80,7 +80,8 @@ def of_packet(history, block, entries):
     uses = [history.facts[n].use for n in entries if history.facts[n].use and history.facts[n].use[0] == block.key[1]]
     filled = [history.entries[n]["call"] for n in entries if history.entries[n]["call"]["do"] == "set_next"]
     moved = [n for n in entries if history.facts[n].moves]
-    kind = kind_of(filled[0]["major"], filled[0]["word"]) if filled else packets.Sent(history, history.packets[uses[-1]]).kind
+    kind = kind_of(filled[0]["major"], filled[0]["word"]) if filled else \
+        packets.Sent(history, history.packets[uses[-1]]).kind
     block.use = history.words.packet(uses[-1])
     cells = [part("block_kind", css="first" if filled else "on", dots="" if filled else ".. ", kind=breakable(kind))]
     if not moved:
@@ -99,8 +100,9 @@ def breakable(text):
 def moved_text(history, call, outcome):
     """Where the last call left the packet."""
     kind, *rest = outcome
-    text = status(rest[0], True) if kind == "completed" else \
-        f"back to the originator, {status(rest[1], True)}" if kind == "kept" and rest[0] is None else history.words.end(outcome)
+    text = status(rest[0], True) if kind == "completed" else history.words.end(outcome)
+    if kind == "kept" and rest[0] is None:
+        text = f"back to the originator, {status(rest[1], True)}"
     first = f"to {history.words.device(call['target'])}" if "target" in call else WINDOWS[call["do"]]
     return part("block_end", css="waits" if kind in ("held", "stays") else "done", text=f"{first}: {text}")
 
@@ -169,7 +171,8 @@ class Blocks:
         numbers = [n for it in blocks for n in it.entries()] or [0]
         wrong = sum(it.css == "bad" for it in blocks)
         threads = counted(len({it.seat for it in blocks}), "thread")
-        text = f"{counted(len(numbers), 'entry', 'entries')} about {counted(len({it.use for it in blocks}), 'packet')}, by {threads}"
+        uses = counted(len({it.use for it in blocks}), "packet")
+        text = f"{counted(len(numbers), 'entry', 'entries')} about {uses}, by {threads}"
         cells = joined([part("block_wide", text=text), part("wrong_text", text=f"{wrong} wrong") if wrong else ""])
         return part("chunk", css="bad" if wrong else "plain", is_open=Html(" open" if wrong else ""),
                     numbers=f"{numbers[0]}–{numbers[-1]}", cells=cells, blocks=self.grouped(blocks))

@@ -107,8 +107,9 @@ class Rows:
         bad, seat = self.history.is_bad(row), self.history.seat_of(row)
         said = part("gives", css="no" if bad else "gives", text=gives) if gives else ""
         use = history.packet_of_step.get(number)
-        return part("step_row", number=number, use=packets.name_of(use) if use else "", seat=seat, bad=Html(" data-bad=1" if bad else ""), lane=self.lane(seat), call=text, gives=said,
-                    place=self.place(self.history.by(row)), body=joined([self.faults(row), more]))
+        return part("step_row", number=number, use=packets.name_of(use) if use else "", seat=seat,
+                    bad=Html(" data-bad=1" if bad else ""), lane=self.lane(seat), call=text, gives=said,
+                    place=self.place(history.by(row)), body=joined([self.faults(row), more]))
 
     def entry(self, number, more=""):
         """Returns an entry."""
@@ -119,7 +120,8 @@ class Rows:
         refused = part("refused", text=self.words.refusal(entry)) if fact.refused and self.words.refusal(entry) else ""
         expected = part("expected") if fact.refused and not history.is_refused(number) else ""
         body = joined([refused, expected, self.faults(row), self.told(fact), more])
-        return part("entry_row", css="e bad" if bad else "e", number=number, use=packets.name_of(fact.use) if fact.use else "",
+        use = packets.name_of(fact.use) if fact.use else ""
+        return part("entry_row", css="e bad" if bad else "e", number=number, use=use,
                     seat=entry["seat"], devices=" ".join(map(str, sorted(fact.devices))),
                     bad=Html(" data-bad=1" if bad else ""), lane=self.lane(entry["seat"]),
                     who=part("by_who", text=self.words.party(by)) if by is not None else "",
@@ -195,7 +197,8 @@ class Rows:
         who = f"{self.words.party(by)}: " if by is not None else ""
         lines = [f"{at:5} T{entry['seat']}  {who}{self.words.call(entry, bool(self.history.host))}"
                  f"{f' -> {reply}' if reply else ''}{where}"]
-        lines += [f"          {n}. {self.words.question(it)}: {self.words.answer(it)}" for n, it in enumerate(entry["asked"], 1)]
+        lines += [f"          {n}. {self.words.question(it)}: {self.words.answer(it)}"
+                  for n, it in enumerate(entry["asked"], 1)]
         return "\n".join(lines + ([f"          {self.words.end(fact.outcome)}"] if fact.outcome else []))
 
 

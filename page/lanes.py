@@ -157,7 +157,8 @@ class Lanes:
         early = part("lane_early") if switch.is_early else ""
         call = switch.at["call"] if switch.how != "ends" else ""
         source = self.history.host.source_at(switch.at["where"])
-        return part("lane_foot", how=switch.how, said=HOW[switch.how], call=call, where=short(switch.at["where"]), early=early,
+        where = short(switch.at["where"])
+        return part("lane_foot", how=switch.how, said=HOW[switch.how], call=call, where=where, early=early,
                     source=part("source", text=source) if source else "")
 
     def source(self, row):

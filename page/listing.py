@@ -1,5 +1,5 @@
-"""What `irp text`, `packet` and `why` print: the lines of irp_view, and of a run of drivers in C names, files and lines beside
-them. These stand in brackets: they are the host's word, and nobody judged it."""
+"""What `irp text`, `packet` and `why` print: the lines of irp_view, and of a run of drivers in C names, files and lines
+beside them. These stand in brackets: they are the host's word, and nobody judged it."""
 
 import os
 import re

@@ -32,7 +32,8 @@ class Diagram:
         if "dispatch" in asked:
             self.arrow(before, party, major(*asked["shown"][3:6:2]))
         elif "completion" in asked:
-            self.arrow(before, party, f"{self.words.routine(*asked['completion'], False)}: {result(*asked['shown'][6:8], True)}", True)
+            name = self.words.routine(*asked["completion"], False)
+            self.arrow(before, party, f"{name}: {result(*asked['shown'][6:8], True)}", True)
         else:
             self.arrow(before, party, self.words.cancel(asked["cancel"]))
         self.lines.append(f"    Note over {party}: {safe(self.words.answer(asked))}")

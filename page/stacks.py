@@ -16,8 +16,8 @@ class Location:
     def __init__(self, state=None):
         state = state or {}
         self.device, self.routine = state.get("device"), state.get("routine")
-        self.what = (state["major"], state["word"]) if state.get("major") or state.get("word") or state.get("device") is not None \
-            else None
+        is_used = state.get("major") or state.get("word") or self.device is not None
+        self.what = (state["major"], state["word"]) if is_used else None
 
 
 def locations_of(fact):
@@ -48,7 +48,9 @@ def prepared(found, state):
 def has_table(fact, is_long):
     """Whether an entry has a table of locations."""
     do = fact.entry["call"]["do"]
-    if fact.refused or fact.judged != "legal" or do in WITHOUT and not fact.moves or not (fact.after and fact.after["locations"]):
+    if fact.refused or fact.judged != "legal" or do in WITHOUT and not fact.moves:
+        return False
+    if not fact.after or not fact.after["locations"]:
         return False
     return fact.moves or not is_long
 
@@ -81,24 +83,28 @@ class Table:
         above = self.locations.get(number + 1)
         return self.words.party(above.device if above else None)
 
+    def routine(self, number, location):
+        """Returns the completion routine of a location, whose it is, its context, and when it is asked."""
+        rule, which, context, flags = location.routine
+        name = self.words.routine(rule, which, False)
+        return f"{name} of {self.setter(number)}, 0x{context:x}, {flags or 'never'}"
+
     def row(self, number):
         it = self.locations.get(number)
         if it is None:  # above all of them
             cells = part("stack_above")
         else:
-            routine = ""
-            if it.routine:
-                rule, which, context, flags = it.routine
-                routine = f"{self.words.routine(rule, which, False)} of {self.setter(number)}, 0x{context:x}, {flags or 'never'}"
             cells = part("stack_cells", major=major(*it.what) if it.what else "",
-                         device=self.words.device(it.device) if it.device is not None else "", routine=routine)
+                         device=self.words.device(it.device) if it.device is not None else "",
+                         routine=self.routine(number, it) if it.routine else "")
         marks = joined(part("stack_mark", step=step, mark="●" if at == number else "") for step, at in self.columns)
         return part("stack_row", css="above" if it is None else "", number=number, cells=cells, marks=marks)
 
     def html(self, is_open):
         """Returns the table."""
         top = len(self.locations) + (self.current > len(self.locations))
-        heads = joined(part("stack_head", step=step, name="then" if step == "end" else step) for step, _ in self.columns)
+        heads = joined(part("stack_head", step=step, name="then" if step == "end" else step)
+                       for step, _ in self.columns)
         rows = joined(self.row(number) for number in range(top, 0, -1))
         use = ".".join(map(str, self.fact.use))
         return part("stack", is_open=Html(" open" if is_open else ""), use=use, heads=heads, rows=rows,

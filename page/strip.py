@@ -69,7 +69,8 @@ class Strip:
             self.pieces.append(part("strip_lane", y=y))
             self.names.append(part("strip_name", y=y, text=self.history.words.thread(seat)))
         for mark, seat, css, first, last in self.spans():
-            self.bar(mark, css or "ran", f"entries {first} to {last}", first, last + 1, self.seats.index(seat) * LANE + TOP, 14, .6)
+            y = self.seats.index(seat) * LANE + TOP
+            self.bar(mark, css or "ran", f"entries {first} to {last}", first, last + 1, y, 14, .6)
 
     def spans(self):
         """Returns what a bar shows: a block; or several, one behind another, where they are too small to be told apart."""

@@ -36,7 +36,8 @@ def of_checker(history, is_clean):
     """What the checker says. That a history is legal decides nothing where another voice objects."""
     at, count = history.story.wrong_at, counted(len(history.entries), "entry", "entries")
     if at is not None:
-        text = joined([link(f"e{at}", f"entry {at}"), " is the first that no manager can have made. Behind it nothing is judged."])
+        text = joined([link(f"e{at}", f"entry {at}"),
+                       " is the first that no manager can have made. Behind it nothing is judged."])
         return Voice("bad", "The checker", text)
     but = "" if is_clean else "; that doesn’t say that the drivers are right"
     return Voice("good" if is_clean else "none", "The checker", f"legal: a manager can have made all {count}{but}.")

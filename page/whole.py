@@ -66,7 +66,8 @@ class Page:
         if self.only:
             used = {it for n in history.packets[self.only].entries for it in history.facts[n].devices}
         return [("threads", "The race" if threads and threads.is_race else "Threads", threads.html() if threads else ""),
-                ("overview", "The whole run", strip.html(history, self.blocks, self.seats) if self.is_long and whole else ""),
+                ("overview", "The whole run",
+                 strip.html(history, self.blocks, self.seats) if self.is_long and whole else ""),
                 ("faults", "Faults", verdict.list_of_faults(history, faults)),
                 ("devices", "Devices", devices.html(history, used)),
                 ("packets", "Packets", packets.html(history, self.seats, self.only)),
@@ -89,7 +90,8 @@ class Page:
         if history.apart and not self.only:
             apart = part("apart", rows=joined(self.maker.row(("step", it)) for it in history.apart))
         moves = any(history.facts[at].moves for kind, at in self.rows if kind == "entry")
-        return part("entries", because=part("pictures_read") if moves else "", lanes=len(self.seats) if len(self.seats) > 1 else 0,
+        lanes_shown = len(self.seats) if len(self.seats) > 1 else 0
+        return part("entries", because=part("pictures_read") if moves else "", lanes=lanes_shown,
                     css="long" if self.is_long else "short", body=body, apart=apart)
 
     def key(self):
@@ -114,8 +116,8 @@ class Page:
         """Returns what the script's lists offer: packets, threads and devices."""
         history, words = self.history, self.history.words
         uses = [] if self.only else packets.uses_of(history)
-        its = {"p": ("packet", [(packets.name_of(it), f"{words.packet(it)} {packets.Sent(history, history.packets[it]).kind}")
-                                for it in uses]),
+        sent = {it: packets.Sent(history, history.packets[it]).kind for it in uses}
+        its = {"p": ("packet", [(packets.name_of(it), f"{words.packet(it)} {sent[it]}") for it in uses]),
                "t": ("thread", [(it, words.thread(it)) for it in self.seats]),
                "d": ("device", [(it, words.device(it)) for it in history.order])}
         return joined(part("choice", by=by, name=name,

@@ -135,11 +135,13 @@ class Words:
         device, _, _, code, location, word, now, information, returned, cancel, _, has_lower = asked["shown"]
         who, more = self.party(device), ", cancel flag" if cancel else ""
         if "dispatch" in asked:
-            below = ("" if has_lower else ", nothing below") + (f", {result(now, information)}" if now or information else "")
+            below = "" if has_lower else ", nothing below"
+            below += f", {result(now, information)}" if now or information else ""
             return f"{who} {self.dispatch(asked['dispatch'])}: {major(code, word)}, location {location}{below}{more}"
         if "completion" in asked:
             pended = ", PendingReturned" if returned else ""
-            return f"{who} {self.routine(*asked['completion'])} (location {location}): {result(now, information)}{pended}{more}"
+            routine = self.routine(*asked["completion"])
+            return f"{who} {routine} (location {location}): {result(now, information)}{pended}{more}"
         return f"{who} {self.cancel(asked['cancel'])}: cancel flag set"
 
     def answer(self, asked):
