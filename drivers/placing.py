@@ -54,6 +54,12 @@ def wrong_place(sources, place):
     return NO_COMPLAINT if function == place["function"] else f"{place}, in {function}"
 
 
+def words_in(transcript):
+    """Returns the numbers of a transcript's steps on remove locks."""
+    with open(transcript, encoding="utf-8") as it:
+        return {line["step"] for line in map(json.loads, it.read().splitlines()[1:]) if "step" in line}
+
+
 def wrong_places(sources, path, transcript):
     """Returns what is wrong with a file of places, or None."""
     with open(path, encoding="utf-8") as it:
@@ -71,6 +77,12 @@ def wrong_places(sources, path, transcript):
     if missing:
         return f"no function is {missing[0]}"
     places = [place for it in entries for place in (it["by"], *it["asked"]) if place]
+    places += [it["by"] for it in lines if "step" in it]
+    if any(it["began"] > it["order"] for it in entries) or \
+            [it["order"] for it in entries] != sorted({it["order"] for it in entries}):
+        return "its entries aren't in the order in which they were recorded"
+    if {it["step"] for it in lines if "step" in it} != words_in(transcript):
+        return "it has other steps than the transcript"
     without = [it["n"] for it in entries if not it["by"]]
     if without or len(places) < len(entries):
         return f"entry {without[:1]} has no place"
