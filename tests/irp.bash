@@ -87,7 +87,7 @@ named() {
 for word in 'IRPX demo' 'IRP_VIEW text' 'IRP_WORDS words tables' 'IRP_ORDERS orders' 'IRP_LIVE live'; do
     has=stand-in
     # shellcheck disable=SC2086
-    named "${word%% *}" "$room/stand_in" 0 /dev/null ${word#* }
+    named "${word%% *}" "$room/stand_in" 0 "$room/transcript" ${word#* }
 done
 has="IRPX names $room/script, which can't be run"
 named IRPX "$room/script" 6 /dev/null demo
