@@ -39,7 +39,7 @@ class Bench:
         self.tried += 1
         if not is_so:
             self.wrong += 1
-            print(f"failed: {what}{f': {more}' if more != '' else ''}")
+            print(f"failed: {what}{f': {more}' if more != '' else ''}", flush=True)
 
     def asks(self, what, expression, wanted=True):
         value = self.window.value(expression)
