@@ -1,5 +1,5 @@
 -- A text is cut at its first dots in one way.
-use Rattle.std.proofs.Common.{arith, ◌≤◌, Bool, true, false, cond, drop, map, zero, suc, ◌≡◌, ◌<◌, ℕ, List, [], ◌∷◌, ◌++◌, Option, None, Some, IfSome, MatchOption, Bor, length, ◌≢◌, inl, inr, refl, sym, subst, ◌∙◌}
+use Rattle.std.proofs.Common.{arith, ◌≤◌, Bool, true, false, cond, drop, zero, suc, ◌≡◌, ◌<◌, ℕ, List, [], ◌∷◌, ◌++◌, Option, None, Some, IfSome, MatchOption, Bor, length, ◌≢◌, inl, inr, refl, sym, subst, ◌∙◌}
 use lib.ListN.{get_or}
 use Rattle.std.proofs.lemmas.Str.Pattern.{IsSplitOnceResult, split_after, split_parts}
 use Rattle.std.proofs.lemmas.Str.Parse.{digit_at}
@@ -7,11 +7,9 @@ use Rattle.std.specs.Option.{is_some}
 use Rattle.std.proofs.lemmas.Bool.{eqb-true}
 use Rattle.std.proofs.Math.Dec.{eqb}
 use Rattle.std.specs.Str.Parse.{AllDigits, without_leading_plus}
-use Rattle.irp_view.specs.CommandLine.{IsUseOf}
 use Rattle.irp_view.specs.Joined.{IsJoined, IsNumber}
 use Rattle.irp_command_line.specs.CommandLine.{Writes}
-use Rattle.irp_view.specs.Spans.{HasNoDot, OrNone, IsParted, IsPlace, IsSpan, IsUse, last_place}
-use Rattle.irp_types.specs.declared.names.IrpRef.{IrpRef}
+use Rattle.irp_view.specs.Spans.{HasNoDot, OrNone, IsParted, IsPlace, IsSpan, last_place}
 use Rattle.irp_view.specs.declared.orders.Span.{Span}
 
 -- where a text is parted, the cut at its first dot gives the text before it, and a dot before the text behind
@@ -92,14 +90,6 @@ no_place missing text found first none = subst (OrNone (IsPlace missing text)) n
 -- a place that was found
 pub found_place : (missing : ℕ) (text : List ℕ) (found : Option ℕ) (place : ℕ) → OrNone (IsPlace missing text) found → found ≡ Some place → IsPlace missing text place
 found_place missing text found place first some = subst (OrNone (IsPlace missing text)) some first
-
--- of two texts that were taken out of a list of two: the use that the list names is the one that they name
-pub two_name : (texts : List (Bor (List ℕ))) (none : Bor (List ℕ)) (value : Option IrpRef) → 2 ≤ length texts → length texts < 3 → IsUseOf (Some (map (λ text. text.now) texts)) value
-    → (irp : IrpRef) × IsUse (get_or texts 0 none).now (get_or texts 1 none).now irp
-two_name [] none value two three is = absurd (omega (arith, two))
-two_name (slot ∷ []) none value two three is = absurd (omega (arith, two))
-two_name (slot ∷ use_no ∷ []) none value two three is = (is.0, is.1)
-two_name (slot ∷ use_no ∷ other ∷ rest) none value two three is = absurd (omega (arith, three))
 
 -- a text that writes a number has no dot
 pub number_text_has_no_dot : (text : List ℕ) → IsNumber text → HasNoDot text
