@@ -86,7 +86,7 @@ flags_in() {
 }
 for program in IRP_VIEW IRP_WORDS IRP_ORDERS; do
     case $program in
-    IRP_VIEW) words='text page packet story' ;;
+    IRP_VIEW) words='text story' ;;
     IRP_WORDS) words=words ;;
     IRP_ORDERS) words=orders ;;
     esac
