@@ -75,33 +75,33 @@ module _ (telling : Telling) (mid new before : Output) (ended transcript : Trans
 
 -- ---- the end
 
-module _ (old new : Telling) (mid after before : Output) (transcript : TranscriptValue) (is : IsTelling old mid before transcript transcript) where
-  story_ends : IsStory transcript (is.went.text ++ new.text.items) → (left rest : Bytes) → Holds left rest transcript
-      → Written new.text.items mid.gone after.gone mid.failures after.failures → TellsInput (Ok tt) (streams_of left before) (streams_of rest after)
+module _ (old : Telling) (new : List ℕ) (mid after before : Output) (transcript : TranscriptValue) (is : IsTelling old mid before transcript transcript) where
+  story_ends : IsStory transcript (is.went.text ++ new) → (left rest : Bytes) → Holds left rest transcript
+      → Written new mid.gone after.gone mid.failures after.failures → TellsInput (Ok tt) (streams_of left before) (streams_of rest after)
   story_ends story left rest holds written = (
     transcript,
     holds,
     record {
-      text = is.went.text ++ new.text.items;
+      text = is.went.text ++ new;
       is = story;
-      written = written_then is.went.text new.text.items before.gone mid.gone after.gone before.failures mid.failures after.failures is.went.written written;
+      written = written_then is.went.text new before.gone mid.gone after.gone before.failures mid.failures after.failures is.went.written written;
     },
   )
 
-  end_breaks : (fault : StreamFault) → IsStory transcript (is.went.text ++ new.text.items) → (left rest : Bytes) → Holds left rest transcript
-      → BreaksOff new.text.items mid.gone after.gone mid.failures after.failures fault → TellsInput (Err (IsUnwritten fault)) (streams_of left before) (streams_of rest after)
+  end_breaks : (fault : StreamFault) → IsStory transcript (is.went.text ++ new) → (left rest : Bytes) → Holds left rest transcript
+      → BreaksOff new mid.gone after.gone mid.failures after.failures fault → TellsInput (Err (IsUnwritten fault)) (streams_of left before) (streams_of rest after)
   end_breaks fault story left rest holds broken = (
     transcript,
     inr holds,
     record {
-      text = is.went.text ++ new.text.items;
+      text = is.went.text ++ new;
       is = inr story;
-      broken = breaks_then is.went.text new.text.items before.gone mid.gone after.gone before.failures mid.failures after.failures fault is.went.written broken;
+      broken = breaks_then is.went.text new before.gone mid.gone after.gone before.failures mid.failures after.failures fault is.went.written broken;
     },
   )
 
-  pub end_sent : (result : Result (Unit {0}) Unshown) → IsStory transcript (is.went.text ++ new.text.items) → (left rest : Bytes) → Holds left rest transcript
-      → IsSent new.text.items mid after result → TellsInput result (streams_of left before) (streams_of rest after)
+  pub end_sent : (result : Result (Unit {0}) Unshown) → IsStory transcript (is.went.text ++ new) → (left rest : Bytes) → Holds left rest transcript
+      → IsSent new mid after result → TellsInput result (streams_of left before) (streams_of rest after)
   end_sent (Ok done) story left rest holds sent = story_ends story left rest holds sent
   end_sent (Err (IsUnwritten fault)) story left rest holds sent = end_breaks fault story left rest holds sent
   end_sent (Err (IsUnread unread)) story left rest holds sent = absurd sent

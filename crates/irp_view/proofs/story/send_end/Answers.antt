@@ -1,4 +1,5 @@
 -- The verdict was told, and the rest was sent.
+use Rattle.std.proofs.Common.{[]}
 use Rattle.irp_view.specs.Streams.{Output, output_of}
 use Rattle.irp_view.proofs.Stories.{end_sent, end_untold}
 use Rattle.irp_view.proofs.story.send_end.Goals as goal
@@ -13,4 +14,4 @@ returns-in-Ok g c = λ old new before transcript holds is.
 pub returns-in-Err : goal.returns-in-Err
 returns-in-Err g c = λ old new before transcript holds is.
     (let mid : Output = output_of (g.O.Out.gone c.args.output.now) (g.O.Out.failures c.args.output.now) in
-    end_untold c.args.telling.now c.args.telling.now mid mid before transcript is old new holds)
+    end_untold c.args.telling.now [] mid mid before transcript is old new holds)
