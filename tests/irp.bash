@@ -125,9 +125,9 @@ sys.path.remove(os.path.dirname(__file__))
 del sys.modules["subprocess"]
 import subprocess
 END
-for script in ../bin/{irp,irp_run,placed,man,completions,watched} ../drivers/run ../lessons/{check,grade,slides} player/{play,minimize}; do
+for script in ../bin/{irp,irp_run,man,completions,watched} ../page/{draw,list} ../drivers/run ../lessons/{check,grade,slides} player/{play,minimize}; do
     tried=$((tried + 1))
-    PYTHONPATH=$room/modules "$script" --help >"$room/output" 2>&1
+    PYTHONPATH=$room/modules env --default-signal=INT "$script" --help >"$room/output" 2>&1
     ended=$?
     if [ "$ended" -eq 130 ] && [ ! -s "$room/output" ]; then continue; fi
     wrong=$((wrong + 1))
