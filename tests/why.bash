@@ -152,7 +152,7 @@ entry 4096 (line 4098): IoAllocateIrp(1 location)
 END
 
 # Wrong words; they are judged before the input is read. Then a file that isn't there, and a folder.
-echo 'irp: usage: irp why, text, page, story or packet SLOT USE, then [FILE]; see irp --help' >"$room/usage"
+echo 'irp: usage: irp why, text, story or packet SLOT USE, then [FILE]; see irp --help' >"$room/usage"
 while read -r words; do
     # shellcheck disable=SC2086
     run $words <.
